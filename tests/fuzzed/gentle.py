@@ -118,10 +118,12 @@ VALUES = {b"device": b"4567", b"strength": b"4567", b"hold": b"123", b"enter": b
 
 
 def rules(text, parts, draw):
-    """Rules with one line more, one less, or another value in one."""
+    """Rules with one line more, one less, another value in one, or a scale."""
     lines = text.split(b"\n")
-    kind = draw.randrange(8)
-    if kind <= 5:
+    kind = draw.randrange(9)
+    if kind == 8:
+        lines.insert(0, draw.choice((b"scale 16", b"scale 16", b"scale 8")))
+    elif kind <= 5:
         form = draw.choice([form for form in FORMS if all(parts.named[letter] for letter in form[1::2])])
         line = b"".join(draw.choice(parts.named[word]) if word in parts.named else word.encode() for word in form)
         key = line.split()[: KEYS.get(line.split()[0], 99)]

@@ -11,7 +11,7 @@ WORDS = [
     b"m1 M2 x1 X2 c1 r1 / params: w=1u a=b = =x + +$x $ ; * p n vdd gnd 0 1 x1/y m x".split(),
     b".model .inputs .outputs .clock .names .latch .subckt .end .exdc .gate .attr re fe ah al as NIL 0 1 2 3 4 - -- 1- 0- 11 00 a=b o=x=y =x x= "
     b"\\ # q#m 0/q $false NIL=".split(),
-    b"supply device strength clock phase clockport defaultclock pair port hold keeper match enter observe assume 0 1 2 3 4 5 6 7 8 n p - * ! !q "
+    b"scale supply device strength clock phase clockport defaultclock pair port hold keeper match enter observe assume 0 1 2 3 4 5 6 7 8 9 05 10 14 15 16 n p - * ! !q "
     b"q#m 0/q x1:q x1: :q x1/x2:q phi=0 phi=1 =1 all & | ^ ( ) !! a&b (a|b)^!c ((a)) !(a) a& ()".split(),
     b"module endmodule input output wire assign and nand or nor xor xnor buf not reg inout tri supply0 parameter always specify bufif1 primitive "
     b"1'b0 1'b1 1'h0 'b0 1'bx 1 ( ) , ; . = ? : ~ & ^ | ~& ~| ~^ ^~ && || ! == # [ ] { } @ \" \\a \\ \\and \\1'b0 // /* */ (* *) (*) /*/ a$b _ "
@@ -22,7 +22,7 @@ CARDS = [
     b".param @=1|.end|+ @|+|* @|c# @ @ 1f|r# @ @ 100|; @|$ @|.include @|m# @ vdd @ gnd n|m# @ gnd @ vdd p|x# @ @".split(b"|"),
     b".model @|.inputs @ @|.outputs @|.clock @|.names @ @|.names @ @ @|.names @|0 1|1 1|11 1|0 0|1|0|-1 1|1- 1|.latch @ @ re @ 3|"
     b".latch @ @ fe @ 0|.latch @ @ ah @|.latch @ @ al NIL 2|.latch @ @|.subckt @ @=@ @=@|.subckt @ @=@|.end|# @|\\|.names @ @\\|.exdc".split(b"|"),
-    b"supply 0 @|supply 1 @|device @ n|device @ p 4|strength @ @ 4|strength @ @ 7|clock @|phase @ @=0|phase @ @=1 @=0|clockport @ @ @|"
+    b"scale 8|scale 16|supply 0 @|supply 1 @|device @ n|device @ p 4|strength @ @ 4|strength @ @ 12|strength @ @ 7|clock @|phase @ @=0|phase @ @=1 @=0|clockport @ @ @|"
     b"clockport @ @ !@|defaultclock @|pair @ -|pair @ @|port @ @ @|hold @ @|hold @ @ 3|keeper @ @ @|match @ @ @|match @ @ !@|match @ @:@ @|"
     b"enter @ @ @ 0|enter @ @ @ 1|observe @ @ @|assume @ @ @|assume @ * @ ^ @|assume @ * !(@ & @) \\| @|assume @ all @&@|# @".split(b"|"),
     b"module @ (@, @);!module @ (input @, @, output @);!module @;!endmodule!input @;!input @, @;!output @;!output wire @;!wire @, @;!assign @ = @;!"

@@ -19,7 +19,9 @@ from designs import models_text, netlist_text, rules_text
 from drawn import Words, random_design
 from modes import class_lines, replay_lines
 from modules import has_modules, modules_text
+from networks import without_networks
 from report import Report
+from scales import carried
 from verdicts import Comparison, PhaseCheck
 
 FILES = ("c.sp", "m.blif", "r.txt")
@@ -79,6 +81,8 @@ class Comparing:
         self.replays = 0
         self.classed = 0  # designs of which the classes were compared
         self.written = 0  # designs whose models were written as modules too
+        self.carried = 0  # designs that were carried to scale 16
+        self.freed = 0  # cells that are equal by their networks alone
         self.wrong = 0  # designs for which the program prints other lines
         self.disagreeing = 0  # designs of which flat circuits and circuits with whole instances say different things
 
@@ -95,6 +99,10 @@ class Comparing:
                 differences += self.classes(design, report, folder)
             if has_modules(design):
                 differences += self.modules(design, words, name, folder)
+            if design.rules.scale == 8:
+                differences += self.by_scale(design, words, name, folder)
+            if any(model.network is not None for model in design.models.values()):
+                differences += self.by_networks(design, words, folder)
         self.verdicts.update(kind_of(line) for line in report.lines)
         self.counts.add(design, report.lines)
         self.wholes.update(designs=report.with_wholes > 0, cells=report.with_wholes, exposed=report.exposed, moved=report.moved)
@@ -146,6 +154,36 @@ class Comparing:
         pairs = zip_longest(lines, wanted, fillvalue="")
         return [f"    by {kept}: {line}\n    by BLIF: {other}" for line, other in pairs if line != other]
 
+    def by_scale(self, design, words, name, folder):
+        """The differences of a check of the design carried to scale 16."""
+        self.carried += 1
+        other = carried(Random(f"{name} scale"), design)
+        wanted = printed(self.program, words.check(), folder)
+        write_files(other, folder)
+        lines = printed(self.program, words.check(), folder)
+        write_files(design, folder)
+        if lines == wanted:
+            return []
+        pairs = zip_longest(lines, wanted, fillvalue="")
+        kept = keep_files(other, f"simulated-{name}-16")
+        return [f"    by {kept}: {line}\n    at scale 8: {other}" for line, other in pairs if line != other]
+
+    def by_networks(self, design, words, folder):
+        """Where the lines with networks are not those without as they may be: what is equal without is equal with, and of a cell without
+        instances only a line that tells of an output may be another one."""
+        lines = printed(self.program, words.check(), folder)
+        write_files(without_networks(design), folder)
+        others = printed(self.program, words.check(), folder)
+        write_files(design, folder)
+        pairs = [(line, other) for line, other in zip(lines[:-1], others[:-1]) if line != other and not FORMED & set(line.split())]
+        self.freed += sum(kind_of(line) == "equal" for line, _ in pairs)
+        wrong = [pair for pair in pairs if kind_of(pair[1]) == "equal" or self.is_flat(design, pair[1]) and kind_of(pair[1]) != "differs"]
+        return [f"    with networks: {line}\n    without: {other}" for line, other in wrong]
+
+    def is_flat(self, design, line):
+        """Whether the cell of a line has no instances."""
+        return not design.cells[line.split()[1]].instances
+
     def by_modules(self, design, words, name, folder):
         """Compares what is printed by modules with what is printed by BLIF alone, of a design that is not simulated."""
         write_files(design, folder)
@@ -164,6 +202,7 @@ class Comparing:
         counts = [self.wholes[name] for name in ("designs", "cells", "exposed", "moved")]
         print("whole instances: {} designs, {} cells, {} of them with outputs at channels, {} with another first fault than the flat circuit".format(*counts))
         print(f"modules: {self.written} designs with the models in Verilog too")
+        print(f"scales: {self.carried} designs carried to scale 16; networks: {self.freed} cells that are equal by them alone")
         if self.disagreeing:
             print(f"simulated: THE DEFINITIONS DISAGREE on flat circuits and whole instances in {self.disagreeing} designs")
         told = f"{self.wrong} of them not as simulated" if self.wrong else "all as simulated"

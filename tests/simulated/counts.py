@@ -22,7 +22,7 @@ def words_in(design):
     kinds.update(line.split()[0] for line in netlist_text(design).splitlines() if line.startswith(".global"))
     for line in models_text(design).splitlines():
         words = line.split()
-        if words[0] == ".clock":
+        if words[0] in (".clock", ".exdc"):
             kinds.add(words[0])
         elif words[0] == ".latch":
             is_controlled = len(words) == 6 and words[4] != "NIL"

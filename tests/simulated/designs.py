@@ -9,8 +9,9 @@ from dataclasses import dataclass, field
 # The two supplies; each has this name in every cell.
 SUPPLIES = {"gnd": 0, "vdd": 1}
 
-# The level of a device of which no line says another.
-USUAL_LEVEL = 6
+# The level of a device of which no line says another, and that of a supply, an input and a clock port, at each scale.
+USUAL_LEVELS = {8: 6, 16: 10}
+SOURCE_LEVELS = {8: 8, 16: 15}
 
 
 @dataclass
@@ -22,7 +23,7 @@ class Device:
     gate: str
     source: str
     kind: str  # 'n' or 'p'
-    level: int = USUAL_LEVEL
+    level: int = USUAL_LEVELS[8]
 
     def nets(self):
         """The nets in the order in which its card names them."""
@@ -97,6 +98,7 @@ class Model:
     latches: list = field(default_factory=list)
     submodels: list = field(default_factory=list)
     clocks: list = field(default_factory=list)  # those of the inputs that a `.clock` card lists
+    network: list | None = None  # the covers of its don't-care network, if it has one
 
 
 @dataclass(frozen=True)
@@ -170,6 +172,7 @@ class Rules:
     enters: dict = field(default_factory=dict)  # (cell, phase, net): bit
     observed: dict = field(default_factory=dict)  # (cell, port): names of phases
     assumes: list = field(default_factory=list)  # (cell, name of a phase or None for all, Expression)
+    scale: int = 8  # of levels and sizes, 8 or 16
 
     def turns(self):
         """Each phase with the one after it; the first follows the last."""
@@ -259,13 +262,18 @@ def models_text(design):
             lines.append(" ".join([".subckt", submodel.model] + ties))
         for cover in model.covers:
             lines += cover_lines(cover)
+        if model.network is not None:
+            lines.append(".exdc")
+            for cover in model.network:
+                lines += cover_lines(cover)
         lines.append(".end")
     return "\n".join(lines) + "\n"
 
 
 def clock_lines(rules):
-    """The lines of supplies, devices, clocks and phases, which come first."""
-    lines = ["supply 1 vdd", "supply 0 gnd", "device pfet p", "device nfet n"]
+    """The lines of the scale, of supplies, devices, clocks and phases, which come first."""
+    lines = [] if rules.scale == 8 else [f"scale {rules.scale}"]
+    lines += ["supply 1 vdd", "supply 0 gnd", "device pfet p", "device nfet n"]
     if rules.clocks:
         lines.append(" ".join(["clock"] + rules.clocks))
         for phase in rules.phases:
@@ -295,7 +303,7 @@ def rules_text(design):
     lines += [f"port {cell} {port} {signal}" for (cell, port), signal in rules.ports.items()]
     for cell in design.cells.values():
         for device in cell.devices:
-            if device.level != USUAL_LEVEL:
+            if device.level != USUAL_LEVELS[rules.scale]:
                 lines.append(f"strength {cell.name} {device.name} {device.level}")
     lines += held_lines(rules)
     lines += [f"keeper {cell} {device}" for cell, device in sorted(rules.keepers)]

@@ -5,17 +5,24 @@ from random import Random
 from circuits import Maker
 from hierarchies import RightMaker
 from named import rename
+from networks import add_networks
+from scales import spread
 from wide import wide_design
 
 
 def random_design(seed, number):
-    """The design of a number among those of a seed: of twenty one has a wide cell, and of the others two thirds are right but for changes."""
+    """The design of a number among those of a seed: of twenty one has a wide cell, and of the others two thirds are right but for changes.
+
+    Of these, half have don't-care networks in two thirds of their models, and a quarter are of scale 16.
+    """
     random = Random(f"{seed} {number}")
     if number % 20 == 7:
         return wide_design(random)
     design = (RightMaker if number % 3 else Maker)(random).make()
     rename(random, design)
-    return design
+    if random.random() < 0.5:
+        add_networks(random, design)
+    return spread(random, design) if random.random() < 0.25 else design
 
 
 class Words:

@@ -2,7 +2,7 @@
 
 from dataclasses import dataclass, field
 
-from designs import SUPPLIES, Cover, Latch
+from designs import SOURCE_LEVELS, SUPPLIES, Cover, Latch
 
 
 @dataclass(frozen=True)
@@ -48,6 +48,7 @@ class FlatCircuit:
 
     names: list  # of the nets, by their numbers
     ports: dict  # the net of each port of the cell
+    source: int  # the level of supplies, inputs and clock ports
     devices: list = field(default_factory=list)
     holds: dict = field(default_factory=dict)  # by net
     instances: list = field(default_factory=list)
@@ -63,7 +64,7 @@ class Unroller:
     def __init__(self, design, cell):
         self.design = design
         self.depth_of_hold = {}
-        self.circuit = FlatCircuit(names=["gnd", "vdd"], ports={})
+        self.circuit = FlatCircuit(names=["gnd", "vdd"], ports={}, source=SOURCE_LEVELS[design.rules.scale])
         for port in design.cells[cell].ports:
             self.circuit.ports[port] = SUPPLIES[port] if port in SUPPLIES else self.new_net(port)
         self.globals = {net: self.new_net(net) for net in design.globals if design.names_global(cell, net)}
@@ -145,6 +146,7 @@ class FlatModel:
     covers: dict = field(default_factory=dict)  # by output
     latches: dict = field(default_factory=dict)  # by output
     signals: dict = field(default_factory=dict)  # their names, in the order of their numbers
+    free: dict = field(default_factory=dict)  # by output: the signal that is 1 where the output may have either value
 
     def elements(self):
         """The names of the storage elements: of an edge-triggered latch the master `q#m` and the slave `q`."""
@@ -185,7 +187,20 @@ def flat_model(design, name):
             visit(design.models[submodel.model], f"{prefix}{number}/", tied)
 
     visit(top, "", {})
+    add_network(flat, top)
     return flat
+
+
+def add_network(flat, model):
+    """Adds the don't-care network of the topmost model: its signals stand behind all others, and are none of the model's own but inputs."""
+    covers = model.network or []
+    driven = {cover.output for cover in covers}
+    names = dict.fromkeys(name for cover in covers for name in [*cover.inputs, cover.output] if name in driven)
+    flat.signals.update(dict.fromkeys(f"{name}#dc" for name in names))
+    for cover in covers:
+        inputs = [f"{name}#dc" if name in driven else name for name in cover.inputs]
+        flat.covers[f"{cover.output}#dc"] = Cover(inputs, f"{cover.output}#dc", cover.rows, cover.value)
+    flat.free = {output: f"{output}#dc" for output in model.outputs if output in driven}
 
 
 def mentioned(model):

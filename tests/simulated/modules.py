@@ -20,9 +20,9 @@ MOST_LITERALS = 200
 
 
 def has_modules(design):
-    """Whether the models of a design can be written as modules: without latches and clocks, and with no input that is an output too."""
+    """Whether the models of a design can be written as modules: without latches, clocks and don't-care networks, and with no input that is an output too."""
     return all(
-        not model.latches and not model.clocks and len({*model.inputs, *model.outputs}) == len(model.inputs) + len(model.outputs)
+        not model.latches and not model.clocks and model.network is None and len({*model.inputs, *model.outputs}) == len(model.inputs) + len(model.outputs)
         for model in design.models.values()
     )
 

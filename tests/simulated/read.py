@@ -5,7 +5,7 @@ What it does not know, and supplies of other names than `vdd` and `gnd`, it refu
 
 import re
 
-from designs import SUPPLIES, Cell, Cover, Design, Device, Expression, Instance, Latch, Model, Phase, Reference, Rules, SubModel
+from designs import SUPPLIES, USUAL_LEVELS, Cell, Cover, Design, Device, Expression, Instance, Latch, Model, Phase, Reference, Rules, SubModel
 
 
 class NotRead(Exception):
@@ -76,16 +76,19 @@ class Reader:
                 model.clocks += rest if first == ".clock" else []
             elif first == ".outputs":
                 model.outputs += rest
+            elif first == ".exdc":
+                model.network = []
             elif first == ".names":
-                model.covers.append(Cover(rest[:-1], rest[-1], []))
+                covers = model.covers if model.network is None else model.network
+                covers.append(Cover(rest[:-1], rest[-1], []))
             elif first == ".latch":
                 kind, control = rest[2:4] if len(rest) > 3 else ("re", "NIL")
                 model.latches.append(Latch(rest[0], rest[1], kind, None if control == "NIL" else control))
             elif first == ".subckt":
                 model.submodels.append(SubModel(rest[0], dict(tie.split("=", 1) for tie in rest[1:])))
             elif not first.startswith("."):
-                model.covers[-1].rows.append(first if rest else "")
-                model.covers[-1].value = int(words[-1])
+                covers[-1].rows.append(first if rest else "")
+                covers[-1].value = int(words[-1])
             elif first != ".end":
                 raise NotRead(" ".join(words))
 
@@ -96,14 +99,18 @@ class Reader:
             raise NotRead(" ".join(words))
         read(*words[1:])
 
+    def read_scale(self, scale):
+        """The scale of levels and sizes."""
+        self.design.rules.scale = int(scale)
+
     def read_supply(self, value, *nets):
         """The supplies have fixed names."""
         if any(SUPPLIES.get(net) != int(value) for net in nets):
             raise NotRead(f"supply {value} {nets}")
 
-    def read_device(self, model, kind, level="6"):
+    def read_device(self, model, kind, level=None):
         """The kind and the level of a device model."""
-        self.kinds[model] = (kind, int(level))
+        self.kinds[model] = (kind, USUAL_LEVELS[self.design.rules.scale] if level is None else int(level))
 
     def read_strength(self, cell, device, level):
         """The level of a device."""

@@ -9,9 +9,6 @@ files is not judged. Of a budget it says that it suffices where all valuations c
 
 from dataclasses import dataclass
 
-# The level of a supply, an input and a clock port.
-SOURCE_LEVEL = 8
-
 FIGHT = "fight"
 FLOAT = "float"
 
@@ -173,7 +170,7 @@ class PhaseCircuit:
 
     def shown_in(self, region):
         """The bits that the nets of a shut region show."""
-        roots = [(net, SOURCE_LEVEL, bit) for net, bit in self.fixed.items()]
+        roots = [(net, self.circuit.source, bit) for net, bit in self.fixed.items()]
         shown = responses(region, roots, conducting(self.devices_at(set(region)), self.known))
         return {net: bit for net, bit in shown.items() if bit in (0, 1)}
 
@@ -222,7 +219,7 @@ class PhaseCircuit:
 
     def roots(self, bits, held):
         """Where paths begin: given nets with their bits, holds with what they hold, and outputs of whole instances."""
-        given = [(net, SOURCE_LEVEL, bits[net]) for net in self.given]
+        given = [(net, self.circuit.source, bits[net]) for net in self.given]
         given += [(net, hold.size, held[net]) for net, hold in self.circuit.holds.items()]
         for whole in self.wholes:
             given += whole.roots(set(self.plain), bits)
@@ -230,7 +227,7 @@ class PhaseCircuit:
 
     def part_roots(self, part, bits, held):
         """Where paths begin that matter to a part."""
-        roots = [(net, SOURCE_LEVEL, bits[net]) for net in part.given]
+        roots = [(net, self.circuit.source, bits[net]) for net in part.given]
         roots += [(net, size, held[net]) for net, size in part.held]
         for whole in part.wholes:
             roots += whole.roots(part.touched, bits)

@@ -260,7 +260,7 @@ class PhaseCheck:
                 yield Fault((1, net, 1), "unsettled", name, f"circuit {kept[net]} wanted {bits[net]}")
 
     def model_faults(self, setting, bits):
-        """The observed outputs that are not what the model says, then the holds that are not the new bits of their elements."""
+        """The observed outputs that are not what the model says and are not free to be, then the holds that are not the new bits of their elements."""
         model = self.comparison.model
         pairing, given = self.comparison.pairing, self.comparison.carried(self.phase)
         given.update({signal: bits[self.circuit.ports[port]] for signal, port in pairing.input_ports().items()})
@@ -269,7 +269,8 @@ class PhaseCheck:
             if port in self.comparison.outputs and self.comparison.is_observed_port(port, self.phase):
                 bit = bits[self.circuit.ports[port]]
                 wanted = signals[pairing.signals[port]]
-                if bit != wanted:
+                free = model.free.get(pairing.signals[port])
+                if bit != wanted and not (free and signals[free]):
                     yield Fault((2, number), "differs", port, f"circuit {bit} model {wanted}")
         stored = [(hold, group.element) for group in self.comparison.groups if group.element is not None for hold in group.holds]
         for hold, element in sorted(stored, key=lambda item: item[0].net):

@@ -11,7 +11,7 @@ from itertools import product
 from designs import SUPPLIES
 from drives import SOFT, drives_of
 from flat import Assignment, FlatCircuit
-from simulator import SOURCE_LEVEL, Cycle
+from simulator import Cycle
 
 
 class Undetermined(Exception):
@@ -45,8 +45,10 @@ class Inside:
         self.links_of = {}  # the links in a phase, by its name
 
     def is_allowed(self):
-        """Whether it names no global net, its outputs are always observed, and no channel in it meets an input or a clock port."""
+        """Whether its model has no don't-care network, it names no global net, its outputs are always observed, and no channel in it meets an input or a clock port."""
         k = self.comparison
+        if k.design.model_of(k.cell).network:
+            return False
         phases = k.rules.phases
         if any(k.design.names_global(k.cell, net) for net in k.design.globals):
             return False
@@ -126,6 +128,7 @@ class WholeInPhase:
         self.inside = whole.inside
         self.ports = whole.instance.ports
         self.phase = phase
+        self.source = comparison.circuit.source
         self.outputs = [(output, meets_gates_alone(comparison, output)) for output in whole.outputs()]
 
     def driven(self):
@@ -136,7 +139,7 @@ class WholeInPhase:
         """Its outputs at some nets as roots: where one meets gates alone, of the level of a source, else of that of its drive."""
         for output, is_alone in self.outputs:
             if output.net in nets:
-                yield output.net, SOURCE_LEVEL if is_alone else output.drive, self.bit(output.port, bits)
+                yield output.net, self.source if is_alone else output.drive, self.bit(output.port, bits)
 
     def links(self):
         """The links of its ports, between the nets of these."""
@@ -163,7 +166,7 @@ def without_inner_parts(circuit, wholes):
     numbers = {whole.number for whole in wholes}
     devices = [device for device in circuit.devices if numbers.isdisjoint(device.within)]
     instances = [instance for instance in circuit.instances if numbers.isdisjoint(instance.within)]
-    return FlatCircuit(circuit.names, circuit.ports, devices, circuit.holds, instances)
+    return FlatCircuit(circuit.names, circuit.ports, circuit.source, devices, circuit.holds, instances)
 
 
 def with_wholes(comparison, wholes):

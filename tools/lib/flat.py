@@ -39,9 +39,10 @@ class Placed(NamedTuple):
 
 class Circuit:
     """A circuit: its devices, its held nets with their sizes, and the elements of the cell's model that these are matched with, as
-    [!]LATCH. Supplies keep their names."""
+    [!]LATCH, and the level of supplies, inputs and clock ports. Supplies keep their names."""
 
-    def __init__(self):
+    def __init__(self, source_level):
+        self.source_level = source_level
         self.devices: List[FlatDevice] = []
         self.holds: Dict[str, int] = {}
         self.elements: Dict[str, str] = {}
@@ -71,7 +72,7 @@ def placed_instances(netlist, rules, cell, path="", ties=None):
 
 def unrolled(netlist, rules, name):
     """The circuit of a cell; a cell that is not there, or that contains itself, is refused with status 3."""
-    circuit = Circuit()
+    circuit = Circuit(rules.source_level)
     _unroll(circuit, netlist, rules, cell_named(netlist, name), "", {}, lambda literal: literal)
     return circuit
 

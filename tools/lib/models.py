@@ -57,6 +57,7 @@ class Model:
         self.covers: List[Cover] = []
         self.latches: List[Latch] = []
         self.subs: List[SubModel] = []
+        self.network: Optional[List[Cover]] = None  # the covers behind `.exdc`
 
 
 def cards_of(text):
@@ -98,12 +99,16 @@ def models_of(text, file="-"):
             model = models[words[1]] = Model(words[1], line)
         elif model is None:
             raise tool.Refused(f"{file} line {line}: outside a model")
+        elif word == ".exdc":
+            model.network = []
+        elif word in (".inputs", ".outputs") and model.network is not None:
+            continue
         elif word in (".inputs", ".clock", ".outputs"):
             names = {".inputs": model.inputs, ".clock": model.clocks, ".outputs": model.outputs}[word]
             names += [name for name in dict.fromkeys(words[1:]) if name not in names]
         elif word == ".names":
             cover = Cover(words[1:-1], words[-1], [], line)
-            model.covers.append(cover)
+            (model.covers if model.network is None else model.network).append(cover)
         elif word == ".latch":
             model.latches.append(latch_of(line, words))
         elif word == ".subckt":

@@ -12,9 +12,6 @@ from typing import List, NamedTuple, Optional
 
 from lib.flat import FlatDevice
 
-# The level of a supply, an input and a clock port.
-SOURCE_LEVEL = 8
-
 # The most paths that are told of a net.
 MOST_PATHS = 12
 
@@ -88,7 +85,7 @@ class Channels:
         for device in self.devices:
             for net in {device.drain, device.source}:
                 self.at.setdefault(net, []).append(device)
-        self.roots = {net: [Root(net, SOURCE_LEVEL, bit, False)] for net, bit in moment.given.items()}
+        self.roots = {net: [Root(net, circuit.source_level, bit, False)] for net, bit in moment.given.items()}
         for net, held in moment.held.items():
             self.roots.setdefault(net, []).append(Root(net, held.size, held.bit, True))
         self.strength = self._strengths()

@@ -30,11 +30,13 @@ OF_A_CELL = {"strength", "clockport", "pair", "port", "hold", "keeper", "match",
 
 
 class Rules:
-    """The lines of a rules file, with `supplies` (net: "0" or "1"), `kinds` (model: "n" or "p"), `clocks` and `phases` (name: bits)."""
+    """The lines of a rules file, with `supplies` (net: "0" or "1"), `kinds` (model: "n" or "p"), `clocks` and `phases` (name: bits), the `scale`,
+    the `source_level` and the `usual_level` of a transistor."""
 
     def __init__(self, file, lines):
         self.file = file
         self.lines: List[Line] = lines
+        self.scale, self.source_level, self.usual_level = 8, 8, 6
         self.supplies = {"0": "0"}
         self.kinds = {}
         self.levels = {}
@@ -46,12 +48,14 @@ class Rules:
 
     def _take(self, line, words):
         word = line.words[0]
-        if word == "supply":
+        if word == "scale" and words[1:] == ["16"]:
+            self.scale, self.source_level, self.usual_level = 16, 15, 10
+        elif word == "supply":
             for net in words[2:]:
                 self.supplies[net] = words[1]
         elif word == "device" and len(words) > 2:
             self.kinds[words[1]] = words[2]
-            self.levels[words[1]] = int(words[3]) if words[3:] and words[3].isdigit() else 6
+            self.levels[words[1]] = int(words[3]) if words[3:] and words[3].isdigit() else self.usual_level
         elif word == "strength" and len(words) == 4 and words[3].isdigit():
             self.strengths[words[1], words[2]] = int(words[3])
         elif word == "clock":
@@ -73,7 +77,7 @@ class Rules:
 
     def level(self, cell, device):
         """The level of a transistor of a cell, by name and model."""
-        return self.strengths.get((cell, device.name), self.levels.get(device.model, 6))
+        return self.strengths.get((cell, device.name), self.levels.get(device.model, self.usual_level))
 
     def holds(self, cell):
         """The held nets of a cell with their sizes."""

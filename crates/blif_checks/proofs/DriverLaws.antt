@@ -98,9 +98,9 @@ clock_count m clocks lines is c l = ap length l ∙ is.clock_lines ∙ sym (ap l
 
 -- ---- what a sub-model reads and drives
 
-list_at : (f : BlifModel → List (List ℕ)) (ms : List BlifModel) (n : ℕ) → f (record { line = 0; name = []; inputs = []; input_lines = []; clocks = []; clock_lines = []; outputs = []; output_lines = []; covers = []; latches = []; subs = [] }) ≡ []
+list_at : (f : BlifModel → List (List ℕ)) (ms : List BlifModel) (n : ℕ) → f (record { line = 0; name = []; inputs = []; input_lines = []; clocks = []; clock_lines = []; outputs = []; output_lines = []; covers = []; latches = []; subs = []; exdc = [] }) ≡ []
     → get_or (map f ms) n []
-    ≡ f (unwrap_or (slice_get ms n) (record { line = 0; name = []; inputs = []; input_lines = []; clocks = []; clock_lines = []; outputs = []; output_lines = []; covers = []; latches = []; subs = [] }))
+    ≡ f (unwrap_or (slice_get ms n) (record { line = 0; name = []; inputs = []; input_lines = []; clocks = []; clock_lines = []; outputs = []; output_lines = []; covers = []; latches = []; subs = []; exdc = [] }))
 list_at f [] n e = sym e
 list_at f (m ∷ ms) zero e = refl
 list_at f (m ∷ ms) (suc n) e = list_at f ms n e

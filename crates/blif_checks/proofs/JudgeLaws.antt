@@ -1,19 +1,19 @@
 -- The calls that judge the mentions of a model, and the models.
 use Rattle.std.proofs.Common.{◌≡◌, ◌<◌, ◌≤◌, ◌+◌, ◌++◌, ◌∷◌, ◌&&◌, ◌||◌, inl, inr, [], ℕ, zero, suc, List, Bool, true, false, cond, map, flat_map, take, drop, length, get_or, Option, Some, None, option_map, refl, ap, ap₂, sym, ◌∙◌, subst, arith}
-use Rattle.std.specs.Prelude.{◌⊎◌, ◌==◌, bytes_eq, filter_map, find, nat_le, slice_get}
+use Rattle.std.specs.Prelude.{◌⊎◌, ◌==◌, bytes_eq, filter_map, find, nat_le, nat_lt, slice_get, Result, Ok, Err}
 use Rattle.std.specs.List.{cons_option}
 use Rattle.std.proofs.lemmas.Bool.{leb-true, leb-false}
 use Rattle.std.proofs.lemmas.Slice.Eq.{bytes_eq-Decides}
 use Rattle.std.proofs.lemmas.List.{drop_all, take_more}
-use Rattle.std.proofs.lemmas.List.Elements.{All-get_or}
-use Rattle.std.proofs.lemmas.Option.{get_or_from_slice_get, slice_get_within}
+use Rattle.std.proofs.lemmas.List.Elements.{All-get_or, All-nil}
+use Rattle.std.proofs.lemmas.Option.{get_or_from_slice_get, same_Some, slice_get_within}
 use Rattle.vrt_model.proofs.Lists.{at_front, at_last, drop_one}
 use Rattle.vrt_model.specs.Lists.{At, has_name}
 use Rattle.names.specs.Names.{with_names}
 use Rattle.names.proofs.NameLaws.{names_once, once_has_same}
 use Rattle.vrt_model.specs.FlatBlif.{cover_signals, latch_signals, sub_signals}
-use Rattle.vrt_model.specs.Inputs.{IsBlif, IsModel}
-use Rattle.vrt_model.specs.Models.{DriverFault, OnLine, driver_fault, driver_fault_in, drivers_in, on_line, on_lines, uses_in}
+use Rattle.vrt_model.specs.Inputs.{IsBlif, IsCoverLine, IsModel}
+use Rattle.vrt_model.specs.Models.{DriverFault, Never, OnLine, Twice, driver_fault, driver_fault_in, drivers_in, earlier_fault, line_of_fault, network_of, on_line, on_lines, uses_in}
 use Rattle.vrt_model.specs.declared.blif.Blif.{Blif}
 use Rattle.vrt_model.specs.declared.blif.BlifModel.{BlifModel}
 use Rattle.vrt_model.specs.declared.blif.CoverLine.{CoverLine}
@@ -22,11 +22,16 @@ use Rattle.vrt_model.specs.declared.blif.SubLine.{SubLine}
 use Rattle.blif_checks.specs.Least.{AreNotesOf, IsLeastLine, IsOnLine, earlier_line, is_bad, of_driver, passes_on}
 use Rattle.blif_checks.specs.Mentions.{cover_mentions, latch_mentions, mentions_in, numbered, sub_mentions}
 use Rattle.blif_checks.specs.Notes.{AreNotes, is_first_use, is_second}
+use Rattle.blif_checks.specs.Judged.{Judges}
+use Rattle.blif_checks.specs.Parts.{earlier_told, is_line_before, part_of}
+use Rattle.blif_checks.specs.Shown.{line_of}
 use Rattle.blif_checks.specs.Signals.{named_in}
 use Rattle.blif_checks.specs.declared.faults.ModelFault.{ModelFault}
-use Rattle.blif_checks.specs.declared.faults.ModelFault.TheVariants.{DrivenTwice, Undriven, NoMemory}
+use Rattle.blif_checks.specs.declared.faults.ModelFault.TheVariants.{UnknownModel, Formals, Recursion, Depth, DrivenTwice, Undriven, NoMemory}
 use Rattle.blif_checks.specs.declared.mentions.Mention.{Mention}
 use Rattle.blif_checks.specs.declared.notes.Note.{Note}
+use Rattle.blif_checks.specs.declared.part.Part.{Part}
+use Rattle.blif_checks.specs.declared.part.Part.TheVariants.{Own, Network}
 use Rattle.blif_checks.proofs.NoteLaws.{eq_yes}
 
 -- ---- the least line
@@ -184,6 +189,77 @@ pub model_is : (blif : Blif) (models : List BlifModel) (i : ℕ) (m : BlifModel)
 model_is blif models i m is same here =
     let there : slice_get blif.models i ≡ Some m = ap (λ (ms : List BlifModel). slice_get ms i) (sym same) ∙ here in
     subst IsModel (get_or_from_slice_get blif.models i m m there) (All-get_or IsModel blif.models i m (slice_get_within blif.models i m there) is.models)
+
+-- a model's network is one
+pub part_is : (part : Part) (m : BlifModel) → IsModel m → IsModel (part_of part m)
+part_is Own m is = record {
+  inputs = is.inputs;
+  clocks = is.clocks;
+  outputs = is.outputs;
+  input_lines = is.input_lines;
+  clock_lines = is.clock_lines;
+  output_lines = is.output_lines;
+  covers = is.covers;
+  latches = is.latches;
+  exdc = is.exdc;
+}
+part_is Network m is = record {
+  inputs = is.inputs;
+  clocks = is.clocks;
+  outputs = λ i j x y at. cc;
+  input_lines = is.input_lines;
+  clock_lines = is.clock_lines;
+  output_lines = refl;
+  covers = is.exdc;
+  latches = All-nil (λ (l : LatchLine). l.init ≤ 3);
+  exdc = All-nil IsCoverLine;
+}
+
+pub network_is_model : (m : BlifModel) → IsModel m → IsModel (network_of m)
+network_is_model m is = part_is Network m is
+
+-- want of memory comes first
+memory_first : (f : ModelFault) → cond (is_line_before (line_of f) None) f NoMemory ≡ NoMemory
+memory_first (UnknownModel line name) = refl
+memory_first (Formals line name) = refl
+memory_first (Recursion line name) = refl
+memory_first (Depth line depth) = refl
+memory_first (DrivenTwice line name) = refl
+memory_first (Undriven line name) = refl
+memory_first NoMemory = refl
+
+-- faults of drivers are told in the order of their lines
+lines_told : (a b : DriverFault) → is_line_before (line_of (of_driver b)) (line_of (of_driver a)) ≡ nat_lt (line_of_fault b) (line_of_fault a)
+lines_told (Twice k x) (Twice l y) = refl
+lines_told (Twice k x) (Never l y) = refl
+lines_told (Never k x) (Twice l y) = refl
+lines_told (Never k x) (Never l y) = refl
+
+one_told : (a b : DriverFault) (t : Bool) → option_map of_driver (cond t (Some b) (Some a)) ≡ Some (cond t (of_driver b) (of_driver a))
+one_told a b true = refl
+one_told a b false = refl
+
+-- the fault of a model and its network
+pub told_of : {T : Type 0} (own network : Option DriverFault) (f : ModelFault) (r : Result T ModelFault) → (f ≡ NoMemory) ⊎ (option_map of_driver own ≡ Some f) → Judges r (option_map of_driver network)
+    → (earlier_told f r ≡ NoMemory) ⊎ (option_map of_driver (earlier_fault own network) ≡ Some (earlier_told f r))
+told_of own network f (Ok x) (inl e) b = inl e
+told_of own network f (Err g) (inl e) b = inl (ap (λ (a : ModelFault). cond (is_line_before (line_of g) (line_of a)) g a) e ∙ memory_first g)
+told_of None network f r (inr e) b = cc
+told_of (Some own) None f (Ok x) (inr e) b = inr e
+told_of (Some own) (Some network) f (Ok x) (inr e) b = cc
+told_of own network f (Err g) (inr e) (inl h) = inl (ap (λ (a : ModelFault). cond (is_line_before (line_of a) (line_of f)) a f) h)
+told_of (Some own) None f (Err g) (inr e) (inr h) = cc
+told_of (Some own) (Some network) f (Err g) (inr e) (inr h) =
+    let same : of_driver own ≡ f = same_Some (of_driver own) f e in
+    let other : of_driver network ≡ g = same_Some (of_driver network) g h in
+    inr (one_told own network (nat_lt (line_of_fault network) (line_of_fault own))
+    ∙ ap Some
+    (ap (λ t. cond t (of_driver network) (of_driver own)) (sym (lines_told own network)) ∙ ap₂ (λ (a b : ModelFault). cond (is_line_before (line_of b) (line_of a)) b a) same other))
+
+-- a model without a fault of its own has that of its network
+pub told_network : (own network : Option DriverFault) → option_map of_driver own ≡ None → earlier_fault own network ≡ network
+told_network None network e = refl
+told_network (Some own) network e = cc
 
 -- the first model with a fault
 pub model_first : (blif : Blif) (models : List BlifModel) (i : ℕ) (m : BlifModel) (f : ModelFault) → models ≡ blif.models → i < length models → slice_get models i ≡ Some m

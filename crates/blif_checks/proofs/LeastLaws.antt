@@ -8,7 +8,7 @@ use Rattle.std.proofs.lemmas.List.Folds.{list_any-append}
 use Rattle.std.proofs.lemmas.Slice.Eq.{bytes_eq-Decides}
 use Rattle.vrt_model.specs.Lists.{At, has_name}
 use Rattle.vrt_model.specs.FlatBlif.{cover_signals, latch_signals, sub_signals}
-use Rattle.vrt_model.specs.Models.{DriverFault, Never, OnLine, Twice, count_lines, driver_fault_in, drivers_in, drivers_of_name, fault_on, is_driven_twice_on, is_least_bad, is_undriven_on, lines_of, names_on, never_on, on_line, on_lines, uses_in, uses_of_name}
+use Rattle.vrt_model.specs.Models.{DriverFault, Never, OnLine, Twice, count_lines, own_fault, drivers_in, drivers_of_name, fault_on, is_driven_twice_on, is_least_bad, is_undriven_on, lines_of, names_on, never_on, on_line, on_lines, uses_in, uses_of_name}
 use Rattle.vrt_model.specs.declared.blif.Blif.{Blif}
 use Rattle.vrt_model.specs.declared.blif.BlifModel.{BlifModel}
 use Rattle.vrt_model.specs.declared.blif.CoverLine.{CoverLine}
@@ -424,7 +424,7 @@ only_here blif m line d i is at l = elim (cases_eq l line) [
 
 -- the answer of the call that judges the mentions is that of the definition
 pub judged : {T : Type 0} (blif : Blif) (m : BlifModel) (notes : List Note) (names : List (List ℕ)) (mentions : List Mention) (r : Result T ModelFault) → AreNotesOf blif m notes names
-    → mentions ≡ map (numbered names) (mentions_in m) → MentionsGive notes names mentions r → Judges r (option_map of_driver (driver_fault_in blif m))
+    → mentions ≡ map (numbered names) (mentions_in m) → MentionsGive notes names mentions r → Judges r (option_map of_driver (own_fault blif m))
 judged blif m notes names mentions (Ok x) are same good =
     ap (option_map of_driver) (no_faults (told_on blif m) (lines_of m blif) (λ l. cond_none (is_least_bad blif m l) (fault_on blif m l)
     (fault_none blif m notes names l are (λ i o e h. good i o (ap (λ (ms : List Mention). slice_get ms i) same ∙ e)))))
@@ -445,7 +445,7 @@ judged blif m notes names mentions (Err f) are same (inr found) =
       low l lt false line above h = refl
 
 pub judged_shown : {T : Type 0} (blif : Blif) (m : BlifModel) (shown : Shown) (notes : List Note) (mentions : List Mention) (r : Result T ModelFault) → IsShown blif m shown → notes ≡ shown.notes.items → mentions ≡ shown.mentions
-    → MentionsGive notes shown.names mentions r → Judges r (option_map of_driver (driver_fault_in blif m))
+    → MentionsGive notes shown.names mentions r → Judges r (option_map of_driver (own_fault blif m))
 judged_shown blif m shown notes mentions r is n e gives =
     judged blif m shown.notes.items shown.names shown.mentions r is.notes is.mentions
     (subst (λ (ms : List Mention). MentionsGive shown.notes.items shown.names ms r) e (subst (λ (ns : List Note). MentionsGive ns shown.names mentions r) n gives))

@@ -53,7 +53,7 @@ some_interface blif tables name n are e none =
 
 pub model_there : (blif : Blif) (n : ℕ) (m : BlifModel) → slice_get blif.models n ≡ Some m → m ≡ model_at blif n
 model_there blif n m e =
-    sym (ap (λ o. unwrap_or o (record { line = 0; name = []; inputs = []; input_lines = []; clocks = []; clock_lines = []; outputs = []; output_lines = []; covers = []; latches = []; subs = [] })) e)
+    sym (ap (λ o. unwrap_or o (record { line = 0; name = []; inputs = []; input_lines = []; clocks = []; clock_lines = []; outputs = []; output_lines = []; covers = []; latches = []; subs = []; exdc = [] })) e)
 
 -- the model of a name, and its interface
 pub found_model : (blif : Blif) (tables : Tables) (name : List ℕ) (n : ℕ) (m : BlifModel) (interface : List (List ℕ)) → AreTables blif tables

@@ -43,7 +43,7 @@ inner_is blif tables all models are same e = e ∙ ap (map (numbers_in tables.na
 
 in_list_same : (f : SubLine → ℕ) (ms : List BlifModel) (n : ℕ)
     → get_or (map (λ (m : BlifModel). map f m.subs) ms) n []
-    ≡ map f (unwrap_or (slice_get ms n) (record { line = 0; name = []; inputs = []; input_lines = []; clocks = []; clock_lines = []; outputs = []; output_lines = []; covers = []; latches = []; subs = [] })).subs
+    ≡ map f (unwrap_or (slice_get ms n) (record { line = 0; name = []; inputs = []; input_lines = []; clocks = []; clock_lines = []; outputs = []; output_lines = []; covers = []; latches = []; subs = []; exdc = [] })).subs
 in_list_same f [] n = refl
 in_list_same f (m ∷ ms) zero = refl
 in_list_same f (m ∷ ms) (suc n) = in_list_same f ms n

@@ -2,6 +2,7 @@ pub mod Shown
 pub mod Tables
 pub mod Subs
 pub mod Judged
+pub mod Parts
 pub mod Depths
 pub mod Nested
 pub mod Mentions

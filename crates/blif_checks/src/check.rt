@@ -12,8 +12,8 @@ use std::alloc::Global;
 use vrt_model::Blif;
 
 /// Takes models that can be unrolled: each sub-model is there and is tied as its interface asks, none contains itself,
-/// none is deeper than 32, and each signal that is used has one driver. Else it refuses them with the first fault in
-/// this order. It takes time in proportion to the cards where models are no deeper than 32.
+/// none is deeper than 32, and each signal that is used has one driver, those of don't-care networks too. Else it refuses
+/// them with the first fault in this order. It takes time in proportion to the cards where models are no deeper than 32.
 pub fn check_models(alloc: Global, blif: &Blif) -> Result<(), ModelFault>
     requires { IsBlif blif.now }
     ensures { ModelsGive blif.now result }

@@ -8,9 +8,11 @@ ghost use Rattle.vrt_model.specs.declared.blif.LatchLine.{LatchLine as LatchValu
 ghost use Rattle.vrt_model.specs.Inputs.{IsModel};
 ghost use Rattle.blif_checks.specs.Drivers.{AreReads, at_earlier, others};
 ghost use Rattle.blif_checks.specs.Mentions.{numbered};
+ghost use Rattle.blif_checks.specs.Parts.{part_of};
 ghost use Rattle.blif_checks.specs.Tables.{AreTables};
 
 use crate::mentions::{Mention, add};
+use crate::part::{Part, covers_of, latches_of, subs_of};
 use crate::roles::Role;
 use crate::tables::Tables;
 use crate::ties::add_subs;
@@ -168,24 +170,25 @@ fn add_heads(
     Ok(())
 }
 
-/// What drives the signals of a model, by their numbers among some names.
+/// What drives the signals of a model or its network, by their numbers among some names.
 pub(crate) fn drivers_of(
     alloc: Global,
     names: &Names,
     blif: &Blif,
     tables: &Tables,
     reads: &[Names],
+    part: Part,
     model: &BlifModel,
 ) -> Result<Seq<Mention>, NoMemory>
     requires tables { AreTables blif.now tables.now }
     requires reads { AreReads blif.now reads.now }
     requires model { IsModel model.now }
-    ensures { IfOk result (λ list. list ≡ map (numbered names.now) (drivers_in blif.now model.now)) }
+    ensures { IfOk result (λ list. list ≡ map (numbered names.now) (drivers_in blif.now (part_of part model.now))) }
 {
     let mut list = Seq::new(alloc);
     add_heads(alloc, &mut list, names, model)?;
-    add_covers(&mut list, names, model.covers.as_slice())?;
-    add_latches(&mut list, names, model.latches.as_slice())?;
+    add_covers(&mut list, names, covers_of(part, model))?;
+    add_latches(&mut list, names, latches_of(part, model))?;
     add_subs(
         &mut list,
         names,
@@ -193,7 +196,7 @@ pub(crate) fn drivers_of(
         tables,
         reads,
         Role::Driving,
-        model.subs.as_slice(),
+        subs_of(part, model),
     )?;
     Ok(list)
 }

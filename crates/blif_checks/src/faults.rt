@@ -28,6 +28,13 @@ pub enum ModelFault {
 }
 
 impl ModelFault {
+    /// Its line, if it has one.
+    pub(crate) fn line(&self) -> Option<u32>
+        ensures { result ≡ line_of self.now }
+    {
+        self.said().0
+    }
+
     /// Its line, if it has one, and what is wrong there.
     fn said(&self) -> (Option<u32>, &'static str)
         ensures line { result.0 ≡ line_of self.now }

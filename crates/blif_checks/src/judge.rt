@@ -2,19 +2,22 @@
 
 ghost use Rattle.std.specs.Prelude.{◌≡◌, ◌⊎◌, [], Some, cond, find, get_or, option_map, IfOk};
 ghost use Rattle.vrt_model.specs.Inputs.{IsBlif, IsModel};
-ghost use Rattle.vrt_model.specs.Models.{driver_fault, driver_fault_in};
+ghost use Rattle.vrt_model.specs.Models.{driver_fault, driver_fault_in, own_fault};
 ghost use Rattle.blif_checks.specs.Drivers.{AreReads};
 ghost use Rattle.blif_checks.specs.Judged.{Judges};
 ghost use Rattle.blif_checks.specs.Least.{IsLeastLine, IsShown, MentionsGive, earlier_line, is_bad, of_driver, passes_on};
 ghost use Rattle.blif_checks.specs.Notes.{is_first_use, is_line, is_second};
+ghost use Rattle.blif_checks.specs.Parts.{earlier_told, is_line_before, part_of};
+ghost use Rattle.blif_checks.specs.Shown.{line_of};
 ghost use Rattle.blif_checks.specs.Tables.{AreTables};
 
 use crate::ModelFault;
 use crate::drivers::drivers_of;
 use crate::mentions::{Mention, mentions_of};
 use crate::notes::{Note, notes_of};
+use crate::part::Part;
 use crate::roles::reads_of;
-use crate::signals::signals_of;
+use crate::signals::named_of;
 use crate::tables::Tables;
 use crate::uses::uses_of;
 use names::Names;
@@ -213,24 +216,25 @@ impl Drop for Shown {
     }
 }
 
-/// What is shown of a model.
+/// What is shown of a model or its network.
 fn shown_of(
     alloc: Global,
     blif: &Blif,
     tables: &Tables,
     reads: &[Names],
+    part: Part,
     model: &BlifModel,
 ) -> Result<Shown, NoMemory>
     requires tables { AreTables blif.now tables.now }
     requires reads { AreReads blif.now reads.now }
     requires model { IsModel model.now }
-    ensures { IfOk result (λ shown. IsShown blif.now model.now shown) }
+    ensures { IfOk result (λ shown. IsShown blif.now (part_of part model.now) shown) }
 {
-    let names = signals_of(alloc, model)?;
-    let drivers = drivers_of(alloc, &names, blif, tables, reads, model)?;
-    let uses = uses_of(alloc, &names, blif, tables, reads, model)?;
+    let names = named_of(alloc, part, model)?;
+    let drivers = drivers_of(alloc, &names, blif, tables, reads, part, model)?;
+    let uses = uses_of(alloc, &names, blif, tables, reads, part, model)?;
     let notes = notes_of(alloc, names.len(), drivers.as_slice(), uses.as_slice())?;
-    let mentions = mentions_of(alloc, &names, model)?;
+    let mentions = mentions_of(alloc, &names, part, model)?;
     Ok(Shown {
         names,
         notes,
@@ -238,7 +242,59 @@ fn shown_of(
     })
 }
 
-/// Refuses the first signal of a model with two drivers or none.
+/// Refuses the first signal of a model, or of its network, with two drivers or none.
+fn judge_part(
+    alloc: Global,
+    blif: &Blif,
+    tables: &Tables,
+    reads: &[Names],
+    part: Part,
+    model: &BlifModel,
+) -> Result<(), ModelFault>
+    requires tables { AreTables blif.now tables.now }
+    requires reads { AreReads blif.now reads.now }
+    requires model { IsModel model.now }
+    ensures { Judges result (option_map of_driver (own_fault blif.now (part_of part model.now))) }
+{
+    let Ok(shown) = shown_of(alloc, blif, tables, reads, part, model) else {
+        return Err(ModelFault::NoMemory);
+    };
+    judge_mentions(
+        alloc,
+        shown.notes.as_slice(),
+        &shown.names,
+        shown.mentions.as_slice(),
+    )
+}
+
+/// Whether a line is less than another; none comes before all.
+fn is_line_before(line: Option<u32>, other: Option<u32>) -> bool
+    ensures { result ≡ is_line_before line other }
+{
+    match (line, other) {
+        (None, _) => true,
+        (Some(_), None) => false,
+        (Some(line), Some(other)) => line < other,
+    }
+}
+
+/// The fault of the lesser line, a first one where both have one line. Want of memory comes before all.
+fn earlier_of(fault: ModelFault, judged: Result<(), ModelFault>) -> ModelFault
+    ensures { result ≡ earlier_told fault judged }
+{
+    match judged {
+        Ok(()) => fault,
+        Err(other) => {
+            if is_line_before(other.line(), fault.line()) {
+                other
+            } else {
+                fault
+            }
+        }
+    }
+}
+
+/// Refuses the first signal of a model with two drivers or none; the network is a model of its own.
 fn judge_model(
     alloc: Global,
     blif: &Blif,
@@ -251,15 +307,11 @@ fn judge_model(
     requires model { IsModel model.now }
     ensures { Judges result (option_map of_driver (driver_fault_in blif.now model.now)) }
 {
-    let Ok(shown) = shown_of(alloc, blif, tables, reads, model) else {
-        return Err(ModelFault::NoMemory);
-    };
-    judge_mentions(
-        alloc,
-        shown.notes.as_slice(),
-        &shown.names,
-        shown.mentions.as_slice(),
-    )
+    let network = judge_part(alloc, blif, tables, reads, Part::Network, model);
+    match judge_part(alloc, blif, tables, reads, Part::Own, model) {
+        Ok(()) => network,
+        Err(fault) => Err(earlier_of(fault, network)),
+    }
 }
 
 /// Refuses the first model that has such a signal.

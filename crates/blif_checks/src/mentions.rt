@@ -4,7 +4,9 @@ ghost use Rattle.std.specs.Prelude.{◌≡◌, ◌++◌, ◌∷◌, [], length, 
 ghost use Rattle.vrt_model.specs.FlatBlif.{cover_signals, latch_signals};
 ghost use Rattle.vrt_model.specs.Models.{on_line, on_lines};
 ghost use Rattle.blif_checks.specs.Mentions.{cover_mentions, latch_mentions, mentions_in, number_among, numbered, sub_mentions};
+ghost use Rattle.blif_checks.specs.Parts.{part_of};
 
+use crate::part::{Part, covers_of, latches_of, output_lines_of, outputs_of, subs_of};
 use names::Names;
 use std::alloc::Global;
 use vrt_model::{BlifModel, CoverLine, LatchLine, NoMemory, Seq, SubLine, Text, Tie};
@@ -143,13 +145,14 @@ fn add_subs(list: &mut Seq<Mention>, names: &Names, subs: &[SubLine]) -> Result<
     Ok(())
 }
 
-/// All mentions of signals in a model, by their numbers among some names.
+/// All mentions of signals in a model or its network, by their numbers among some names.
 pub(crate) fn mentions_of(
     alloc: Global,
     names: &Names,
+    part: Part,
     model: &BlifModel,
 ) -> Result<Seq<Mention>, NoMemory>
-    ensures { IfOk result (λ list. list ≡ map (numbered names.now) (mentions_in model.now)) }
+    ensures { IfOk result (λ list. list ≡ map (numbered names.now) (mentions_in (part_of part model.now))) }
 {
     let mut list = Seq::new(alloc);
     add_listed(
@@ -167,11 +170,11 @@ pub(crate) fn mentions_of(
     add_listed(
         &mut list,
         names,
-        model.outputs.as_slice(),
-        model.output_lines.as_slice(),
+        outputs_of(part, model),
+        output_lines_of(part, model),
     )?;
-    add_covers(&mut list, names, model.covers.as_slice())?;
-    add_latches(&mut list, names, model.latches.as_slice())?;
-    add_subs(&mut list, names, model.subs.as_slice())?;
+    add_covers(&mut list, names, covers_of(part, model))?;
+    add_latches(&mut list, names, latches_of(part, model))?;
+    add_subs(&mut list, names, subs_of(part, model))?;
     Ok(list)
 }

@@ -5,8 +5,10 @@ ghost use Rattle.vrt_model.specs.Lists.{distinct};
 ghost use Rattle.names.specs.Names.{with_names};
 ghost use Rattle.vrt_model.specs.FlatBlif.{cover_signals, latch_signals, sub_signals};
 ghost use Rattle.vrt_model.specs.declared.blif.Tie.{Tie as TieValue};
+ghost use Rattle.blif_checks.specs.Parts.{part_of};
 ghost use Rattle.blif_checks.specs.Signals.{named_in};
 
+use crate::part::{Part, covers_of, latches_of, outputs_of, subs_of};
 use names::Names;
 use std::alloc::Global;
 use vrt_model::{BlifModel, CoverLine, LatchLine, NoMemory, SubLine, Tie};
@@ -72,17 +74,34 @@ fn add_subs(names: &mut Names, subs: &[SubLine]) -> Result<(), NoMemory>
     Ok(())
 }
 
+/// The signals of a model or its network in the order in which they are first named: inputs, clocks, outputs, then those
+/// of covers, latches and ties.
+pub(crate) fn named_of(alloc: Global, part: Part, model: &BlifModel) -> Result<Names, NoMemory>
+    ensures { IfOk result (λ names. names ≡ with_names [] (named_in (part_of part model.now))) }
+{
+    let mut names = Names::new(alloc);
+    names.add_all(model.inputs.as_slice())?;
+    names.add_all(model.clocks.as_slice())?;
+    names.add_all(outputs_of(part, model))?;
+    add_covers(&mut names, covers_of(part, model))?;
+    add_latches(&mut names, latches_of(part, model))?;
+    add_subs(&mut names, subs_of(part, model))?;
+    Ok(names)
+}
+
 /// The signals of a model in the order in which they are first named: inputs, clocks, outputs, then those of covers,
 /// latches and ties.
 pub fn signals_of(alloc: Global, model: &BlifModel) -> Result<Names, NoMemory>
     ensures { IfOk result (λ names. names ≡ with_names [] (named_in model.now)) }
 {
+    named_of(alloc, Part::Own, model)
+}
+
+/// The names on the cards of covers, in the order in which they are first named.
+pub fn cover_names(alloc: Global, covers: &[CoverLine]) -> Result<Names, NoMemory>
+    ensures { IfOk result (λ names. names ≡ with_names [] (flat_map cover_signals covers.now)) }
+{
     let mut names = Names::new(alloc);
-    names.add_all(model.inputs.as_slice())?;
-    names.add_all(model.clocks.as_slice())?;
-    names.add_all(model.outputs.as_slice())?;
-    add_covers(&mut names, model.covers.as_slice())?;
-    add_latches(&mut names, model.latches.as_slice())?;
-    add_subs(&mut names, model.subs.as_slice())?;
+    add_covers(&mut names, covers)?;
     Ok(names)
 }

@@ -5,9 +5,11 @@ ghost use Rattle.vrt_model.specs.Models.{on_line, uses_in};
 ghost use Rattle.vrt_model.specs.declared.blif.CoverLine.{CoverLine as CoverValue};
 ghost use Rattle.blif_checks.specs.Drivers.{AreReads, latch_uses};
 ghost use Rattle.blif_checks.specs.Mentions.{numbered};
+ghost use Rattle.blif_checks.specs.Parts.{part_of};
 ghost use Rattle.blif_checks.specs.Tables.{AreTables};
 
 use crate::mentions::{Mention, add, add_all, add_listed};
+use crate::part::{Part, covers_of, latches_of, output_lines_of, outputs_of, subs_of};
 use crate::roles::Role;
 use crate::tables::Tables;
 use crate::ties::add_subs;
@@ -50,22 +52,23 @@ fn add_latches(
     Ok(())
 }
 
-/// What uses the signals of a model, by their numbers among some names.
+/// What uses the signals of a model or its network, by their numbers among some names.
 pub(crate) fn uses_of(
     alloc: Global,
     names: &Names,
     blif: &Blif,
     tables: &Tables,
     reads: &[Names],
+    part: Part,
     model: &BlifModel,
 ) -> Result<Seq<Mention>, NoMemory>
     requires tables { AreTables blif.now tables.now }
     requires reads { AreReads blif.now reads.now }
-    ensures { IfOk result (λ list. list ≡ map (numbered names.now) (uses_in blif.now model.now)) }
+    ensures { IfOk result (λ list. list ≡ map (numbered names.now) (uses_in blif.now (part_of part model.now))) }
 {
     let mut list = Seq::new(alloc);
-    add_covers(&mut list, names, model.covers.as_slice())?;
-    add_latches(&mut list, names, model.latches.as_slice())?;
+    add_covers(&mut list, names, covers_of(part, model))?;
+    add_latches(&mut list, names, latches_of(part, model))?;
     add_subs(
         &mut list,
         names,
@@ -73,13 +76,13 @@ pub(crate) fn uses_of(
         tables,
         reads,
         Role::Reading,
-        model.subs.as_slice(),
+        subs_of(part, model),
     )?;
     add_listed(
         &mut list,
         names,
-        model.outputs.as_slice(),
-        model.output_lines.as_slice(),
+        outputs_of(part, model),
+        output_lines_of(part, model),
     )?;
     Ok(list)
 }

@@ -6,6 +6,7 @@ use Rattle.std.proofs.lemmas.Option.{none-some, same_Some}
 use Rattle.blif_eval.proofs.Drivers.{latch_is}
 use Rattle.blif_eval.specs.Drivers.{count_before, node_count}
 use Rattle.vrt_model.proofs.Members.{among_flat_map, flat_map_among}
+use Rattle.vrt_model.proofs.ElementCounts.{names_count}
 use Rattle.vrt_model.specs.Elements.{Numbered, element_count, element_names, names_by_kind, numbered_from, numbered_latches, signal_name}
 use Rattle.vrt_model.specs.FlatModels.{IsControl, IsFlatModel}
 use Rattle.vrt_model.specs.Lists.{At, Among}
@@ -58,12 +59,6 @@ within_from n (k ∷ ls) (suc i) l e =
     let rest = within_from (n + element_count k.kind) ls i l e in
     let sum = sum_by-cons (λ (x : FlatLatch). element_count x.kind) k ls in
     omega (arith, rest, sum)
-
-names_count : (kind : LatchKind) (name : List ℕ) → length (names_by_kind kind name) ≡ element_count kind
-names_count Re name = refl
-names_count Fe name = refl
-names_count Ah name = refl
-names_count Al name = refl
 
 names_of : (flat : FlatModel) (ls : List FlatLatch) → length (flat_map (λ (l : FlatLatch). names_by_kind l.kind (signal_name flat l.output)) ls) ≡ counts_of ls
 names_of flat [] = refl

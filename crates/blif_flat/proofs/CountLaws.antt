@@ -7,7 +7,7 @@ use Rattle.std.proofs.lemmas.List.{length-map}
 use Rattle.std.proofs.lemmas.List.Concat.{length-flat_map}
 use Rattle.std.proofs.lemmas.List.Sums.{sum_by-cons}
 use Rattle.vrt_model.proofs.Tests.{is_none_is, neither}
-use Rattle.vrt_model.specs.FlatBlif.{ModelPlace, all_models, flat_cover, flat_model_of, flat_signals_at, formals, inner_count, inner_signals, model_at, model_numbered, models_in, signals_of, subs_at, subs_from, top_model}
+use Rattle.vrt_model.specs.FlatBlif.{ModelPlace, all_models, flat_cover, unrolled_of, flat_signals_at, formals, inner_count, inner_signals, model_at, model_numbered, models_in, signals_of, subs_at, subs_from, top_model}
 use Rattle.vrt_model.specs.Lists.{At, path_name}
 use Rattle.vrt_model.specs.Models.{bad_formal, bad_sub, interface_of, is_bad_sub, is_model}
 use Rattle.vrt_model.specs.Unrolled.{deepest}
@@ -33,7 +33,7 @@ use Rattle.vrt_model.proofs.Sums.{carried_both, carried_once, sum_flat, sum_same
 
 -- ---- lists
 
-sum_map : {X Y : Type 0} (f : X → Y) (g : Y → ℕ) (xs : List X) → sum_by g (map f xs) ≡ sum_by (λ x. g (f x)) xs
+pub sum_map : {X Y : Type 0} (f : X → Y) (g : Y → ℕ) (xs : List X) → sum_by g (map f xs) ≡ sum_by (λ x. g (f x)) xs
 sum_map f g [] = refl
 sum_map f g (x ∷ xs) = sum_by-cons g (f x) (map f xs) ∙ ap (λ n. g (f x) + n) (sum_map f g xs) ∙ sym (sum_by-cons (λ x. g (f x)) x xs)
 
@@ -146,7 +146,7 @@ no_subs i s e = cc
 pub all_fit : (blif : Blif) → bad_sub blif ≡ None → AllFit blif
 all_fit blif none m i s h = record { formals = (neither _ _ (is_none_is (bad_formal blif s) (or_parts (not (is_model blif s.model)) (not (is_none (bad_formal blif s))) (good blif.models none m h)).1)).0 } where
   good : (ms : List BlifModel) → find (is_bad_sub blif) (flat_map (λ (m : BlifModel). m.subs) ms) ≡ None → (m : ℕ)
-      → At (unwrap_or (slice_get ms m) (record { line = 0; name = []; inputs = []; input_lines = []; clocks = []; clock_lines = []; outputs = []; output_lines = []; covers = []; latches = []; subs = [] })).subs i s
+      → At (unwrap_or (slice_get ms m) (record { line = 0; name = []; inputs = []; input_lines = []; clocks = []; clock_lines = []; outputs = []; output_lines = []; covers = []; latches = []; subs = []; exdc = [] })).subs i s
       → is_bad_sub blif s ≡ false
   good [] e m h = absurd (no_subs i s h)
   good (x ∷ ms) e zero h = none_in (is_bad_sub blif) x.subs (flat_map (λ (m : BlifModel). m.subs) ms) e i s h
@@ -154,10 +154,10 @@ all_fit blif none m i s h = record { formals = (neither _ _ (is_none_is (bad_for
 
 -- ---- tables of models
 
-at_each_model : {Y : Type 0} (f : BlifModel → Y) (none : Y) → f (record { line = 0; name = []; inputs = []; input_lines = []; clocks = []; clock_lines = []; outputs = []; output_lines = []; covers = []; latches = []; subs = [] }) ≡ none
+at_each_model : {Y : Type 0} (f : BlifModel → Y) (none : Y) → f (record { line = 0; name = []; inputs = []; input_lines = []; clocks = []; clock_lines = []; outputs = []; output_lines = []; covers = []; latches = []; subs = []; exdc = [] }) ≡ none
     → (ms : List BlifModel) (m : ℕ)
     → get_or (map f ms) m none
-    ≡ f (unwrap_or (slice_get ms m) (record { line = 0; name = []; inputs = []; input_lines = []; clocks = []; clock_lines = []; outputs = []; output_lines = []; covers = []; latches = []; subs = [] }))
+    ≡ f (unwrap_or (slice_get ms m) (record { line = 0; name = []; inputs = []; input_lines = []; clocks = []; clock_lines = []; outputs = []; output_lines = []; covers = []; latches = []; subs = []; exdc = [] }))
 at_each_model f none e [] m = sym e
 at_each_model f none e (x ∷ ms) zero = refl
 at_each_model f none e (x ∷ ms) (suc m) = at_each_model f none e ms m
@@ -244,7 +244,7 @@ top_subs blif depth m =
 pub counts_are : (blif : Blif) (m : ℕ) (counts : Counts) → counts.signals ≡ carried (length (signals_of (model_at blif m)) + carried (within blif Signals deepest m))
     → counts.rows ≡ carried (rows_in (model_at blif m) + carried (within blif Rows deepest m)) → counts.subs ≡ carried (within blif Subs deepest m)
     → AreCounts blif m counts
-unfolding flat_model_of all_models
+unfolding unrolled_of all_models
 counts_are blif m counts s r b = record {
   signals = s ∙ carried_both _ _ (length (signals_of (model_at blif m))) (within blif Signals deepest m) refl (carried_once (within blif Signals deepest m)) ∙ ap carried (sym (top_signals blif deepest m));
   rows = r ∙ carried_both _ _ (own blif Rows m []) (within blif Rows deepest m) (carried_once (own blif Rows m [])) (carried_once (within blif Rows deepest m)) ∙ ap carried (sym (top_rows blif deepest m));

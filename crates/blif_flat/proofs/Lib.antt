@@ -2,6 +2,7 @@ pub mod OnceLaws
 pub mod CountLaws
 pub mod PlaceLaws
 pub mod FlatLaws
+pub mod NetworkMade
 pub mod OneDriverCounts
 pub mod RangeLaws
 pub mod OneDriverLines
@@ -11,3 +12,5 @@ pub mod OneDriverDepths
 pub mod OneDriverSubs
 pub mod OneDriverWhole
 pub mod OneDriverLaws
+pub mod NetworkLaws
+pub mod NetworkBits

@@ -189,7 +189,7 @@ span_join (suc a) b base x =
       regroup : (k m n : ℕ) → k + (m + n) ≡ (k + m) + n
       regroup k m n = omega arith
 
-span_before : (count base x : ℕ) → x < base → span base count x ≡ 0
+pub span_before : (count base x : ℕ) → x < base → span base count x ≡ 0
 span_before zero base x lt = refl
 span_before (suc count) base x lt =
     ap₂ (λ (b : Bool) (n : ℕ). cond b 1 0 + n) (eq_no base x (λ e. omega (arith, e, lt))) (span_before count (suc base) x (omega (arith, lt)))

@@ -1,15 +1,15 @@
--- The flat model of good models is well formed.
-use Rattle.std.proofs.Common.{◌≡◌, ◌<◌, ◌≤◌, ◌+◌, ◌++◌, ◌∷◌, inl, inr, [], ℕ, zero, suc, List, true, false, not, map, flat_map, length, Option, None, refl, ap, ap₂, sym, ◌∙◌, subst, arith}
-use Rattle.std.specs.Prelude.{◌==◌, All, count_by, filter, find, is_none, slice_get, unwrap_or}
+-- What is unrolled of good models is well formed.
+use Rattle.std.proofs.Common.{Bool, Some, ◌≡◌, ◌<◌, ◌≤◌, ◌+◌, ◌++◌, ◌∷◌, inl, inr, [], ℕ, zero, suc, List, true, false, not, map, flat_map, length, Option, None, refl, ap, ap₂, sym, ◌∙◌, subst, arith}
+use Rattle.std.specs.Prelude.{◌==◌, All, filter, find, is_none, nat_lt, slice_get, sum_by, unwrap_or, cond}
 use Rattle.std.proofs.lemmas.Bool.{cases_lt, or_parts}
 use Rattle.std.proofs.lemmas.List.Elements.{All-head, All-tail}
-use Rattle.vrt_model.specs.FlatBlif.{ModelPlace, all_models, flat_cover, flat_latch, flat_model_of, formals, inner_count, model_at, model_numbered, models_in, signal_at, top_model}
+use Rattle.vrt_model.specs.FlatBlif.{ModelPlace, all_models, flat_cover, flat_latch, unrolled_of, formals, inner_count, model_at, model_numbered, models_in, signal_at, top_model}
 use Rattle.vrt_model.specs.FlatModels.{IsFlatModel, drivers_of}
 use Rattle.vrt_model.specs.Inputs.{IsBlif, IsCoverLine, IsModel}
 use Rattle.vrt_model.specs.Lists.{Among, At, has_name}
-use Rattle.vrt_model.specs.Models.{AreModels, DriverFault, bad_formal, bad_formal_after, bad_sub, driver_fault_in, interface_of, is_bad_sub, is_model, models_within}
+use Rattle.vrt_model.specs.Models.{AreModels, DriverFault, bad_formal, bad_formal_after, bad_sub, driver_fault_in, earlier_fault, interface_of, is_bad_sub, is_model, line_of_fault, models_within, network_of, own_fault}
 use Rattle.vrt_model.specs.Unrolled.{deepest}
-use Rattle.vrt_model.specs.Unsupported.{model_limits, too_large}
+use Rattle.vrt_model.specs.Limits.{most_rows, most_signals}
 use Rattle.vrt_model.specs.declared.blif.Blif.{Blif}
 use Rattle.vrt_model.specs.declared.blif.BlifModel.{BlifModel}
 use Rattle.vrt_model.specs.declared.blif.CoverLine.{CoverLine}
@@ -20,20 +20,21 @@ use Rattle.vrt_model.specs.declared.flat_model.FlatLatch.{FlatLatch}
 use Rattle.vrt_model.specs.declared.flat_model.FlatModel.{FlatModel}
 use Rattle.vrt_model.proofs.Members.{all_by, among_left, among_right, at_none, find_none}
 use Rattle.vrt_model.proofs.Tests.{is_none_is, neither}
+use Rattle.blif_checks.proofs.JudgeLaws.{network_is_model}
 use Rattle.blif_flat.proofs.CountLaws.{signals_in}
-use Rattle.blif_flat.proofs.OneDriverCounts.{hits, hits_flat, hits_is, hits_join, hits_map, span_within, total, total_both, total_same}
+use Rattle.blif_flat.proofs.OneDriverCounts.{hits, hits_flat, hits_is, hits_join, hits_map, span, span_within, total, total_both, total_same}
 use Rattle.blif_flat.proofs.OneDriverDepths.{Ends, ends_upto, models_end}
 use Rattle.blif_flat.proofs.OneDriverLines.{none_told}
-use Rattle.blif_flat.proofs.OneDriverNames.{AllTied, is_driven}
+use Rattle.blif_flat.proofs.OneDriverNames.{AllTied, IsDriven, is_driven}
 use Rattle.blif_flat.proofs.OneDriverPlaces.{IsSubTied, IsTied, card_hits, gives, heads}
 use Rattle.blif_flat.proofs.OneDriverSubs.{tie_kind}
 use Rattle.blif_flat.proofs.OneDriverWhole.{AreDriven, counted}
-use Rattle.blif_flat.proofs.RangeLaws.{good_flat}
+use Rattle.blif_flat.proofs.RangeLaws.{good_unrolled}
 
 -- ---- each model by its number
 
 abbrev no_model : BlifModel
-no_model = record { line = 0; name = []; inputs = []; input_lines = []; clocks = []; clock_lines = []; outputs = []; output_lines = []; covers = []; latches = []; subs = [] }
+no_model = record { line = 0; name = []; inputs = []; input_lines = []; clocks = []; clock_lines = []; outputs = []; output_lines = []; covers = []; latches = []; subs = []; exdc = [] }
 
 none_all : {X : Type 0} (P : X → Type 0) → All P []
 none_all P = all_by P [] (λ x a. absurd (at_none a.0 x a.1))
@@ -48,6 +49,7 @@ empty_good = record {
   output_lines = refl;
   covers = none_all IsCoverLine;
   latches = none_all (λ (l : LatchLine). l.init ≤ 3);
+  exdc = none_all IsCoverLine;
 }
 
 good_at : (ms : List BlifModel) → All IsModel ms → (n : ℕ) → IsModel (unwrap_or (slice_get ms n) no_model)
@@ -73,11 +75,32 @@ sub_fits blif none n s a =
     let parts = neither (bad_formal_after (interface_of m) [] (formals s)) (find (λ name. not (has_name (formals s) name)) (m.inputs ++ m.clocks)) formal in
     record { fitting = parts.0; whole = parts.1 }
 
+none_of_both : (a b : Option DriverFault) → earlier_fault a b ≡ None → (a ≡ None) × (b ≡ None)
+none_of_both None b e = (refl, e)
+none_of_both (Some f) None e = cc
+none_of_both (Some f) (Some g) e = by_order (nat_lt (line_of_fault g) (line_of_fault f)) e where
+  by_order : (t : Bool) → cond t (Some g) (Some f) ≡ None → (Some f ≡ None) × (Some g ≡ None)
+  by_order true e = cc
+  by_order false e = cc
+
+no_fault_at : (blif : Blif) → AreModels blif → (n : ℕ) → driver_fault_in blif (model_at blif n) ≡ None
+no_fault_at blif are n = fault_at (driver_fault_in blif) refl blif.models n (λ i m a. none_told (driver_fault_in blif) blif.models are.drivers i m a)
+
+-- each model by its number is one
+pub model_good : (blif : Blif) → IsBlif blif → (n : ℕ) → IsModel (model_at blif n)
+model_good blif good n = good_at blif.models good.models n
+
+-- the network of each model is driven once
+pub network_driven : (blif : Blif) → IsBlif blif → AreModels blif → (n : ℕ) → IsDriven blif (network_of (model_at blif n))
+network_driven blif good are n =
+    is_driven blif (network_of (model_at blif n)) (network_is_model (model_at blif n) (model_good blif good n)) (λ s t a b. absurd (at_none a.0 s a.1))
+    (none_of_both (own_fault blif (model_at blif n)) (own_fault blif (network_of (model_at blif n))) (no_fault_at blif are n)).1
+
 -- good models are driven once throughout
 pub good_driven : (blif : Blif) → IsBlif blif → AreModels blif → AreDriven blif
 good_driven blif good are = record {
   models = good_at blif.models good.models;
-  driven = λ n. is_driven blif (model_at blif n) (good_at blif.models good.models n) (all_tied n) (fault_at (driver_fault_in blif) refl blif.models n (λ i m a. none_told (driver_fault_in blif) blif.models are.drivers i m a));
+  driven = λ n. is_driven blif (model_at blif n) (good_at blif.models good.models n) (all_tied n) (none_of_both (own_fault blif (model_at blif n)) (own_fault blif (network_of (model_at blif n))) (no_fault_at blif are n)).0;
   tied = sub_fits blif are.subs;
 } where
   all_tied : (n : ℕ) → AllTied blif (model_at blif n)
@@ -132,8 +155,8 @@ latches_hits blif x places =
 
 -- what drives a signal: the interface, and the cards of all places
 drivers_hits : (blif : Blif) (m x : ℕ)
-    → hits (λ d. d == x) (drivers_of (flat_model_of blif m)) ≡ hits (gives blif (top_model m) x) (heads (model_at blif m)) + total (card_hits blif x) (models_in blif deepest (top_model m))
-unfolding flat_model_of all_models
+    → hits (λ d. d == x) (drivers_of (unrolled_of blif m)) ≡ hits (gives blif (top_model m) x) (heads (model_at blif m)) + total (card_hits blif x) (models_in blif deepest (top_model m))
+unfolding unrolled_of all_models
 drivers_hits blif m x =
     let top : ModelPlace = top_model m in
     let model : BlifModel = model_at blif m in
@@ -151,24 +174,22 @@ drivers_hits blif m x =
       joined : (all first c l head cards : ℕ) → all ≡ (first + c) + l → first ≡ head → cards ≡ c + l → all ≡ head + cards
       joined all first c l head cards a b d = omega (arith, a, b, d)
 
-signal_count : (blif : Blif) (m : ℕ) → length (flat_model_of blif m).signals ≡ inner_count blif deepest (model_at blif m) []
-unfolding flat_model_of all_models
+signal_count : (blif : Blif) (m : ℕ) → length (unrolled_of blif m).signals ≡ inner_count blif deepest (model_at blif m) []
+unfolding unrolled_of all_models
 signal_count blif m = signals_in blif deepest (top_model m)
 
--- each signal of the unrolled model has one driver
-pub one_driver : (blif : Blif) (m : ℕ) → IsBlif blif → AreModels blif → (x : ℕ) → x < length (flat_model_of blif m).signals → count_by (λ d. d == x) (drivers_of (flat_model_of blif m)) ≡ 1
-one_driver blif m good are x lt =
-    let count = signal_count blif m in
-    let whole = counted blif x deepest (top_model m) (good_driven blif good are) (top_tied blif m) (top_ends blif m are) in
-    let within = span_within (inner_count blif deepest (model_at blif m) []) 0 x (omega arith) (omega (arith, lt, count)) in
-    sym (hits_is (λ d. d == x) (drivers_of (flat_model_of blif m))) ∙ drivers_hits blif m x ∙ whole ∙ within_one _ within where
-      within_one : (n : ℕ) → n ≡ 1 → 0 + n ≡ 1
-      within_one n e = omega (arith, e)
+-- how often a signal is driven: once if it is there
+pub drivers_span : (blif : Blif) (m x : ℕ) → IsBlif blif → AreModels blif → hits (λ d. d == x) (drivers_of (unrolled_of blif m)) ≡ span 0 (length (unrolled_of blif m).signals) x
+drivers_span blif m x good are =
+    drivers_hits blif m x ∙ counted blif x deepest (top_model m) (good_driven blif good are) (top_tied blif m) (top_ends blif m are) ∙ none_more (span 0 (inner_count blif deepest (model_at blif m) []) x)
+    ∙ ap (λ k. span 0 k x) (sym (signal_count blif m)) where
+      none_more : (n : ℕ) → 0 + n ≡ n
+      none_more n = omega arith
 
--- the flat model of good models, within the limits, is well formed
-pub flat_good : (blif : Blif) (m : ℕ) → IsBlif blif → AreModels blif → too_large (model_limits blif m) ≡ None → IsFlatModel (flat_model_of blif m)
-flat_good blif m good are within = good_flat blif m good within (one_driver blif m good are)
-
--- so is what is equal to it
-pub is_flat : (blif : Blif) (m : ℕ) (flat : FlatModel) → IsBlif blif → AreModels blif → too_large (model_limits blif m) ≡ None → flat ≡ flat_model_of blif m → IsFlatModel flat
-is_flat blif m flat good are within e = subst IsFlatModel (sym e) (flat_good blif m good are within)
+-- what is unrolled of good models, within the limits, is well formed
+pub unrolled_good : (blif : Blif) (m : ℕ) → IsBlif blif → AreModels blif → length (unrolled_of blif m).signals ≤ most_signals → sum_by (λ (c : Cover). length c.rows) (unrolled_of blif m).covers ≤ most_rows
+    → IsFlatModel (unrolled_of blif m)
+unrolled_good blif m good are few rows =
+    good_unrolled blif m good few rows
+    (λ x lt.
+    sym (hits_is (λ d. d == x) (drivers_of (unrolled_of blif m))) ∙ drivers_span blif m x good are ∙ span_within (length (unrolled_of blif m).signals) 0 x (omega arith) (omega (arith, lt)))

@@ -6,7 +6,7 @@ use Rattle.std.specs.Option.{option_or}
 use Rattle.std.proofs.lemmas.Bool.{cases_lt, lt-ltb, or_parts}
 use Rattle.std.proofs.lemmas.Option.{same_Some}
 use Rattle.vrt_model.specs.Lists.{Among, At}
-use Rattle.vrt_model.specs.Models.{Never, OnLine, Twice, count_lines, driver_fault_in, drivers_of_name, fault_on, is_driven_twice_on, is_least_bad, is_undriven_on, lines_of, names_on, uses_of_name}
+use Rattle.vrt_model.specs.Models.{Never, OnLine, Twice, count_lines, own_fault, drivers_of_name, fault_on, is_driven_twice_on, is_least_bad, is_undriven_on, lines_of, names_on, uses_of_name}
 use Rattle.vrt_model.specs.declared.blif.Blif.{Blif}
 use Rattle.vrt_model.specs.declared.blif.BlifModel.{BlifModel}
 use Rattle.vrt_model.proofs.Members.{at_none, find_none}
@@ -127,7 +127,7 @@ none_pass test [] none = refl
 none_pass test (x ∷ xs) none = ap₂ (λ a b. a || b) (none 0 x refl) (none_pass test xs (λ i y e. none (suc i) y e))
 
 -- a model without a fault has none on a line of it: no lower line has one
-pub no_fault : (blif : Blif) (m : BlifModel) → driver_fault_in blif m ≡ None → (k l : ℕ) → l < k → Among (lines_of m blif) l → fault_on blif m l ≡ None
+pub no_fault : (blif : Blif) (m : BlifModel) → own_fault blif m ≡ None → (k l : ℕ) → l < k → Among (lines_of m blif) l → fault_on blif m l ≡ None
 no_fault blif m none zero l lt a = absurd (omega (arith, lt))
 no_fault blif m none (suc k) l lt a =
     sym (ap (λ b. cond (not b) (fault_on blif m l) None)
@@ -149,12 +149,12 @@ both_none line None (Some n) e = cc
 both_none line (Some n) b e = cc
 
 -- a name on a line without a fault has no second driver there, and is used there first only where it has a driver
-pub not_twice : (blif : Blif) (m : BlifModel) (l : ℕ) (n : List ℕ) → driver_fault_in blif m ≡ None → Among (lines_of m blif) l → Among (names_on m l) n → is_driven_twice_on blif m l n ≡ false
+pub not_twice : (blif : Blif) (m : BlifModel) (l : ℕ) (n : List ℕ) → own_fault blif m ≡ None → Among (lines_of m blif) l → Among (names_on m l) n → is_driven_twice_on blif m l n ≡ false
 not_twice blif m l n none a on =
     find_none (is_driven_twice_on blif m l) (names_on m l) n
     (both_none l (find (is_driven_twice_on blif m l) (names_on m l)) (find (is_undriven_on blif m l) (names_on m l)) (no_fault blif m none (suc l) l (omega arith) a)).0 on
 
-pub not_undriven : (blif : Blif) (m : BlifModel) (l : ℕ) (n : List ℕ) → driver_fault_in blif m ≡ None → Among (lines_of m blif) l → Among (names_on m l) n → is_undriven_on blif m l n ≡ false
+pub not_undriven : (blif : Blif) (m : BlifModel) (l : ℕ) (n : List ℕ) → own_fault blif m ≡ None → Among (lines_of m blif) l → Among (names_on m l) n → is_undriven_on blif m l n ≡ false
 not_undriven blif m l n none a on =
     find_none (is_undriven_on blif m l) (names_on m l) n
     (both_none l (find (is_driven_twice_on blif m l) (names_on m l)) (find (is_undriven_on blif m l) (names_on m l)) (no_fault blif m none (suc l) l (omega arith) a)).1 on

@@ -9,7 +9,7 @@ use Rattle.vrt_model.specs.Lists.{Among, At, has_name}
 use Rattle.names.proofs.NameLaws.{names_once, once_has_same}
 use Rattle.vrt_model.specs.FlatBlif.{cover_signals, latch_signals, signals_of, sub_signals}
 use Rattle.vrt_model.specs.Inputs.{IsModel}
-use Rattle.vrt_model.specs.Models.{OnLine, driver_fault_in, drivers_in, drivers_of_name, is_driven_twice_on, is_driving, is_reading, is_undriven_on, line_in, listed_inputs, names_on, on_line, on_lines, ties_on, uses_in, uses_of_name}
+use Rattle.vrt_model.specs.Models.{OnLine, own_fault, drivers_in, drivers_of_name, is_driven_twice_on, is_driving, is_reading, is_undriven_on, line_in, listed_inputs, names_on, on_line, on_lines, ties_on, uses_in, uses_of_name}
 use Rattle.vrt_model.specs.declared.blif.Blif.{Blif}
 use Rattle.vrt_model.specs.declared.blif.BlifModel.{BlifModel}
 use Rattle.vrt_model.specs.declared.blif.CoverLine.{CoverLine}
@@ -343,14 +343,14 @@ clash : (b : Bool) → b ≡ true → b ≡ false → ⊥
 clash true h e = cc
 clash false h e = cc
 
-not_two : (blif : Blif) (m : BlifModel) (n : List ℕ) → driver_fault_in blif m ≡ None → 1 < length (drivers_of_name blif m n) → ⊥
+not_two : (blif : Blif) (m : BlifModel) (n : List ℕ) → own_fault blif m ≡ None → 1 < length (drivers_of_name blif m n) → ⊥
 not_two blif m n none two =
     let t = twice_there blif m n two in
     let o : Among (drivers_in blif m) (on_line t.0 n) = line_named (drivers_in blif m) n t.0 t.2 in
     clash (is_driven_twice_on blif m t.0 n) t.1
     (not_twice blif m t.0 n none (map_among (λ (o : OnLine). o.line) (drivers_in blif m ++ uses_in blif m) (on_line t.0 n) (among_left _ _ (on_line t.0 n) o)) (driver_named blif m (on_line t.0 n) o))
 
-not_none : (blif : Blif) (m : BlifModel) (n : List ℕ) → driver_fault_in blif m ≡ None → IsTouched blif m n → drivers_of_name blif m n ≡ [] → ⊥
+not_none : (blif : Blif) (m : BlifModel) (n : List ℕ) → own_fault blif m ≡ None → IsTouched blif m n → drivers_of_name blif m n ≡ [] → ⊥
 not_none blif m n none touched empty = elim touched.1 [
   | inl driver ↦
       let some : 0 < length (drivers_of_name blif m n) =
@@ -387,7 +387,7 @@ pub record IsDriven (blif : Blif) (m : BlifModel) : Type 0 where
   pub one : (n : List ℕ) → has_name (signals_of m) n ≡ true → length (filter (bytes_eq n) (map (λ (o : OnLine). o.name) (drivers_in blif m))) ≡ 1
   pub within : (n : List ℕ) → has_name (map (λ (o : OnLine). o.name) (drivers_in blif m)) n ≡ true → has_name (signals_of m) n ≡ true
 
-pub is_driven : (blif : Blif) (m : BlifModel) → IsModel m → AllTied blif m → driver_fault_in blif m ≡ None → IsDriven blif m
+pub is_driven : (blif : Blif) (m : BlifModel) → IsModel m → AllTied blif m → own_fault blif m ≡ None → IsDriven blif m
 is_driven blif m is tied none = record {
   one = λ n e. by_names n (drivers_in blif m) ∙ one_of (drivers_of_name blif m n) (not_two blif m n none) (not_none blif m n none (signal_touched blif m n is tied e));
   within =

@@ -117,7 +117,8 @@ card_hits blif x p =
 abbrev pub sub_hits : Blif → ModelPlace → ℕ → SubLine → ℕ
 sub_hits blif p x s = hits (λ (t : Tie). gives blif p x t.actual) (filter (is_driving blif s) s.ties)
 
-drivers_by_kind : (blif : Blif) (m : BlifModel) (g : List ℕ → Bool) → IsModel m
+-- how often a name is driven, by what drives it
+pub drivers_by_kind : (blif : Blif) (m : BlifModel) (g : List ℕ → Bool) → IsModel m
     → hits (λ (o : OnLine). g o.name) (drivers_in blif m)
     ≡ hits g (heads m) + hits (λ (c : CoverLine). g c.output) m.covers + hits (λ (l : LatchLine). g l.output) m.latches + total (λ (s : SubLine). hits (λ (t : Tie). g t.actual) (filter (is_driving blif s) s.ties)) m.subs
 drivers_by_kind blif m g is =

@@ -10,7 +10,7 @@ use Rattle.vrt_model.proofs.Lists.{take_one}
 use Rattle.vrt_model.specs.Lists.{has_name, path_name, place_of}
 use Rattle.names.specs.Names.{with_names}
 use Rattle.names.proofs.NameLaws.{names_once, once_has_same, with_names-append}
-use Rattle.vrt_model.specs.FlatBlif.{ModelPlace, all_models, flat_model_of, flat_cover, flat_latch, flat_signals_at, formals, inner_count, inner_signals, model_at, model_numbered, models_in, signal_at, signals_of, sub_signals, subs_at, subs_from, top_model}
+use Rattle.vrt_model.specs.FlatBlif.{ModelPlace, all_models, unrolled_of, flat_cover, flat_latch, flat_signals_at, formals, inner_count, inner_signals, model_at, model_numbered, models_in, signal_at, signals_of, sub_signals, subs_at, subs_from, top_model}
 use Rattle.vrt_model.specs.Models.{bad_sub}
 use Rattle.vrt_model.specs.Unrolled.{deepest}
 use Rattle.vrt_model.specs.declared.blif.Blif.{Blif}
@@ -21,6 +21,7 @@ use Rattle.vrt_model.specs.declared.blif.LatchLine.{LatchLine}
 use Rattle.vrt_model.specs.declared.blif.SubLine.{SubLine}
 use Rattle.vrt_model.specs.declared.blif.Tie.{Tie}
 use Rattle.vrt_model.specs.declared.flat_model.Cover.{Cover}
+use Rattle.vrt_model.specs.declared.flat_model.DontCare.{DontCare}
 use Rattle.vrt_model.specs.declared.flat_model.FlatLatch.{FlatLatch}
 use Rattle.vrt_model.specs.declared.flat_model.FlatModel.{FlatModel}
 use Rattle.blif_flat.specs.Counts.{Fits}
@@ -126,7 +127,7 @@ with_own blif p m old new is there own =
     ∙ ap (λ (r : List FlatLatch). old.latches ++ r) (sym (append-nil _)))
 
 abbrev empty_model : BlifModel
-empty_model = record { line = 0; name = []; inputs = []; input_lines = []; clocks = []; clock_lines = []; outputs = []; output_lines = []; covers = []; latches = []; subs = [] }
+empty_model = record { line = 0; name = []; inputs = []; input_lines = []; clocks = []; clock_lines = []; outputs = []; output_lines = []; covers = []; latches = []; subs = []; exdc = [] }
 
 alone : (blif : Blif) (depth : ℕ) (at : ModelPlace) → model_at blif at.model ≡ empty_model → models_in blif depth at ≡ at ∷ []
 alone blif zero at e = refl
@@ -235,30 +236,31 @@ pub place_room : (blif : Blif) (depth : ℕ) (p : Place) → IsPlace blif p → 
 unfolding size_of
 place_room blif depth p is room = own_room blif depth p.base p.model p.tied p.inner is room
 
-pub top_size : (blif : Blif) (m n : ℕ) (at : ModelPlace) → at ≡ top_model m → length (flat_model_of blif m).signals ≤ 20000 → n ≡ 0 → n + size_of blif deepest at ≤ 20000
-unfolding size_of flat_model_of all_models
+pub top_size : (blif : Blif) (m n : ℕ) (at : ModelPlace) → at ≡ top_model m → length (unrolled_of blif m).signals ≤ 20000 → n ≡ 0 → n + size_of blif deepest at ≤ 20000
+unfolding size_of unrolled_of all_models
 top_size blif m n at is limit none =
     let count = signals_in blif deepest (top_model m) in
     let same = ap (λ (p : ModelPlace). inner_count blif deepest (model_at blif p.model) p.tied) is in
     omega (arith, count, same, limit, none)
 
 flat_same : (a a' : List (List ℕ)) (i i' c c' o o' : List ℕ) (b b' : List Cover) (l l' : List FlatLatch) → a ≡ a' → i ≡ i' → c ≡ c' → o ≡ o' → b ≡ b' → l ≡ l'
-    → (let one : FlatModel = record { signals = a; inputs = i; clocks = c; outputs = o; covers = b; latches = l } in one) ≡ (record { signals = a'; inputs = i'; clocks = c'; outputs = o'; covers = b'; latches = l' })
+    → (let one : FlatModel = record { signals = a; inputs = i; clocks = c; outputs = o; covers = b; latches = l; dontcares = [] } in one) ≡ (record { signals = a'; inputs = i'; clocks = c'; outputs = o'; covers = b'; latches = l'; dontcares = [] })
 flat_same a a' i i' c c' o o' b b' l l' ea ei ec eo eb el =
-    ap₂ (λ (x : List (List ℕ)) (y : List ℕ). let one : FlatModel = record { signals = x; inputs = y; clocks = c; outputs = o; covers = b; latches = l } in one) ea ei
-    ∙ ap₂ (λ (x y : List ℕ). let one : FlatModel = record { signals = a'; inputs = i'; clocks = x; outputs = y; covers = b; latches = l } in one) ec eo
-    ∙ ap₂ (λ (x : List Cover) (y : List FlatLatch). let one : FlatModel = record { signals = a'; inputs = i'; clocks = c'; outputs = o'; covers = x; latches = y } in one) eb el
+    ap₂ (λ (x : List (List ℕ)) (y : List ℕ). let one : FlatModel = record { signals = x; inputs = y; clocks = c; outputs = o; covers = b; latches = l; dontcares = [] } in one) ea ei
+    ∙ ap₂ (λ (x y : List ℕ). let one : FlatModel = record { signals = a'; inputs = i'; clocks = x; outputs = y; covers = b; latches = l; dontcares = [] } in one) ec eo
+    ∙ ap₂ (λ (x : List Cover) (y : List FlatLatch). let one : FlatModel = record { signals = a'; inputs = i'; clocks = c'; outputs = o'; covers = x; latches = y; dontcares = [] } in one) eb el
 
 -- the parts of all places, with the interface of the top, are the flat model
-pub flat_is : (blif : Blif) (m : ℕ) (p : Place) (parts none : Parts) (interface : Interface) → IsPlace blif p → place_in p ≡ top_model m
-    → none.signals ≡ [] → none.covers ≡ [] → none.latches ≡ [] → parts ≡ with_places blif (places_of blif deepest (place_in p)) none → IsInterface p (model_at blif p.model) interface
-    → (let one : FlatModel = record { signals = parts.signals; inputs = interface.inputs; clocks = interface.clocks; outputs = interface.outputs; covers = parts.covers; latches = parts.latches } in one) ≡ flat_model_of blif m
-unfolding flat_model_of all_models places_of
-flat_is blif m p parts none interface is top ns nc nl e face =
+pub flat_is : (blif : Blif) (m : ℕ) (p : Place) (parts none : Parts) (interface : Interface) (dontcares : List DontCare) → IsPlace blif p → place_in p ≡ top_model m
+    → none.signals ≡ [] → none.covers ≡ [] → none.latches ≡ [] → dontcares ≡ [] → parts ≡ with_places blif (places_of blif deepest (place_in p)) none → IsInterface p (model_at blif p.model) interface
+    → (let one : FlatModel = record { signals = parts.signals; inputs = interface.inputs; clocks = interface.clocks; outputs = interface.outputs; covers = parts.covers; latches = parts.latches; dontcares = dontcares } in one) ≡ unrolled_of blif m
+unfolding unrolled_of all_models places_of
+flat_is blif m p parts none interface dontcares is top ns nc nl nd e face =
     let number : number_in p ≡ signal_at blif (top_model m) = signal_is blif p is ∙ ap (signal_at blif) top in
     let model : model_at blif p.model ≡ model_at blif m = ap (λ (at : ModelPlace). model_at blif at.model) top in
     let places : parts ≡ with_places blif (models_in blif deepest (top_model m)) none = e ∙ ap (λ (at : ModelPlace). with_places blif (models_in blif deepest at) none) top in
-    flat_same parts.signals _ interface.inputs _ interface.clocks _ interface.outputs _ parts.covers _ parts.latches _
+    ap (λ (ds : List DontCare). let one : FlatModel = record { signals = parts.signals; inputs = interface.inputs; clocks = interface.clocks; outputs = interface.outputs; covers = parts.covers; latches = parts.latches; dontcares = ds } in one) nd
+    ∙ flat_same parts.signals _ interface.inputs _ interface.clocks _ interface.outputs _ parts.covers _ parts.latches _
     (ap (λ (q : Parts). q.signals) places ∙ ap (λ (xs : List (List ℕ)). xs ++ flat_map (flat_signals_at blif) (models_in blif deepest (top_model m))) ns)
     (face.inputs ∙ ap₂ (λ (f : List ℕ → ℕ) (x : BlifModel). map f x.inputs) number model)
     (face.clocks ∙ ap₂ (λ (f : List ℕ → ℕ) (x : BlifModel). map f (filter (λ name. not (has_name x.inputs name)) x.clocks)) number model)

@@ -1,6 +1,6 @@
 -- Flat models but for their drivers: the numbers are those of signals, rows fit, and the limits hold.
 use Rattle.std.proofs.Common.{◌≡◌, ◌<◌, ◌≤◌, ◌+◌, ◌++◌, ◌∷◌, ◌&&◌, [], ℕ, zero, suc, not, List, map, flat_map, filter, length, Option, Some, None, Bool, true, false, refl, ap, ap₂, sym, ◌∙◌, subst, arith}
-use Rattle.std.specs.Prelude.{All, bytes_eq, is_some, option_map, option_to_list, slice_get, unwrap_or, count_by, ◌==◌}
+use Rattle.std.specs.Prelude.{All, bytes_eq, is_some, option_map, option_to_list, slice_get, sum_by, unwrap_or, count_by, ◌==◌}
 use Rattle.std.proofs.lemmas.List.{length-map}
 use Rattle.std.proofs.lemmas.List.Elements.{All-head, All-tail}
 use Rattle.std.proofs.lemmas.List.Quantifiers.{position-Some}
@@ -9,22 +9,22 @@ use Rattle.std.proofs.lemmas.Option.{same_Some}
 use Rattle.std.proofs.lemmas.Slice.Eq.{bytes_eq-Decides}
 use Rattle.vrt_model.proofs.Lists.{at_there}
 use Rattle.vrt_model.specs.Lists.{Among, At, has_name, place_of}
-use Rattle.vrt_model.specs.FlatBlif.{ModelPlace, all_models, cover_signals, flat_cover, flat_latch, flat_model_of, formals, inner_count, inner_signals, latch_signals, model_at, model_numbered, models_in, flat_signals_at, signal_at, signals_of, sub_signals, subs_at, subs_from, top_model}
+use Rattle.vrt_model.specs.FlatBlif.{ModelPlace, all_models, cover_signals, flat_cover, flat_latch, unrolled_of, formals, inner_count, inner_signals, latch_signals, model_at, model_numbered, models_in, flat_signals_at, signal_at, signals_of, sub_signals, subs_at, subs_from, top_model}
 use Rattle.vrt_model.specs.FlatModels.{IsControl, IsCover, IsFlatModel, IsLatch, IsRow, drivers_of}
 use Rattle.vrt_model.specs.Inputs.{IsBlif, IsCoverLine, IsModel}
 use Rattle.vrt_model.specs.Unrolled.{deepest}
-use Rattle.vrt_model.specs.Unsupported.{model_limits, too_large}
+use Rattle.vrt_model.specs.Limits.{most_rows, most_signals}
 use Rattle.vrt_model.specs.declared.blif.Blif.{Blif}
 use Rattle.vrt_model.specs.declared.blif.BlifModel.{BlifModel}
 use Rattle.vrt_model.specs.declared.blif.CoverLine.{CoverLine}
 use Rattle.vrt_model.specs.declared.blif.LatchLine.{LatchLine}
 use Rattle.vrt_model.specs.declared.blif.SubLine.{SubLine}
 use Rattle.vrt_model.specs.declared.blif.Tie.{Tie}
+use Rattle.vrt_model.specs.declared.flat_model.Cover.{Cover}
 use Rattle.vrt_model.proofs.Members.{all_among, all_by, among_any, among_filter, among_flat_map, among_left, among_map, among_right, at_none, flat_map_among}
 use Rattle.blif_flat.specs.Places.{placed, signals_left}
 use Rattle.blif_checks.specs.Signals.{named_in}
 use Rattle.blif_flat.proofs.CountLaws.{signals_in}
-use Rattle.blif_flat.proofs.FlatLaws.{rows_within, signals_within}
 use Rattle.names.proofs.PlaceLaws.{any_placed}
 use Rattle.blif_flat.proofs.OnceLaws.{named_among}
 use Rattle.names.proofs.FilterLaws.{has_name_filter}
@@ -137,7 +137,7 @@ places_below blif total depth m room p a = all_below blif total depth (top_model
 -- ---- rows
 
 good_cover : (ms : List BlifModel) → All IsModel ms → (m : ℕ) (c : CoverLine)
-    → Among (unwrap_or (slice_get ms m) (record { line = 0; name = []; inputs = []; input_lines = []; clocks = []; clock_lines = []; outputs = []; output_lines = []; covers = []; latches = []; subs = [] })).covers c
+    → Among (unwrap_or (slice_get ms m) (record { line = 0; name = []; inputs = []; input_lines = []; clocks = []; clock_lines = []; outputs = []; output_lines = []; covers = []; latches = []; subs = []; exdc = [] })).covers c
     → IsCoverLine c
 good_cover [] all m c a = absurd (at_none a.0 c a.1)
 good_cover (x ∷ ms) all zero c a = let good : IsModel x = All-head IsModel x ms all in all_among IsCoverLine x.covers c good.covers a
@@ -192,23 +192,30 @@ names_below blif total depth m room names named =
     all_by (λ s. s < total) (map (signal_at blif (top_model m)) names)
     (λ x a. let n = among_map (signal_at blif (top_model m)) names x a in subst (λ s. s < total) n.2 (top_below blif total depth m room n.0 (named n.0 n.1)))
 
--- a flat model within the limits is well formed if each signal has one driver
-pub good_flat : (blif : Blif) (m : ℕ) → IsBlif blif → too_large (model_limits blif m) ≡ None
-    → ((s : ℕ) → s < length (flat_model_of blif m).signals → count_by (λ d. d == s) (drivers_of (flat_model_of blif m)) ≡ 1) → IsFlatModel (flat_model_of blif m)
-unfolding flat_model_of all_models
-good_flat blif m good within one =
+at_most : (a b : ℕ) → a ≡ b → b ≤ a
+at_most a b e = omega (arith, e)
+
+-- the flat signal of a name of the model itself
+pub top_named : (blif : Blif) (m : ℕ) (n : List ℕ) → has_name (signals_of (model_at blif m)) n ≡ true → signal_at blif (top_model m) n < length (unrolled_of blif m).signals
+unfolding unrolled_of all_models
+top_named blif m n named = top_below blif _ deepest m (at_most _ _ (signals_in blif deepest (top_model m))) n named
+
+-- what is unrolled within the limits is well formed if each signal has one driver
+pub good_unrolled : (blif : Blif) (m : ℕ) → IsBlif blif → length (unrolled_of blif m).signals ≤ most_signals → sum_by (λ (c : Cover). length c.rows) (unrolled_of blif m).covers ≤ most_rows
+    → ((s : ℕ) → s < length (unrolled_of blif m).signals → count_by (λ d. d == s) (drivers_of (unrolled_of blif m)) ≡ 1) → IsFlatModel (unrolled_of blif m)
+unfolding unrolled_of all_models
+good_unrolled blif m good few rows one =
     let model : BlifModel = model_at blif m in
     let total : ℕ = length (flat_map (flat_signals_at blif) (models_in blif deepest (top_model m))) in
     let room : inner_count blif deepest (model_at blif m) [] ≤ length (flat_map (flat_signals_at blif) (models_in blif deepest (top_model m))) = at_most _ _ (signals_in blif deepest (top_model m)) in
     record {
-      signal_limit = signals_within blif m within;
-      row_limit = rows_within blif m within;
+      signal_limit = few;
+      row_limit = rows;
       inputs = names_below blif _ deepest m room model.inputs (input_named model);
       clocks = names_below blif _ deepest m room (filter (λ name. not (has_name model.inputs name)) model.clocks) (λ n a. clock_named model n (among_filter (λ name. not (has_name model.inputs name)) model.clocks n a));
       outputs = names_below blif _ deepest m room model.outputs (output_named model);
       covers = covers_below blif _ deepest m good room;
       latches = latches_below blif _ deepest m room;
+      dontcares = all_by _ [] (λ d a. absurd (at_none a.0 d a.1));
       one_driver = one;
-    } where
-      at_most : (a b : ℕ) → a ≡ b → b ≤ a
-      at_most a b e = omega (arith, e)
+    }

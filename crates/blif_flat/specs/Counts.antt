@@ -1,7 +1,7 @@
 -- How much stands in models once their sub-models are unrolled.
 use Rattle.std.specs.Prelude.{◌≡◌, ℕ, zero, suc, ◌+◌, ◌-◌, List, [], map, length, sum_by, None, get_or, position, unwrap_or, bytes_eq}
 use Rattle.blif_checks.specs.Tables.{AreTables}
-use Rattle.vrt_model.specs.FlatBlif.{all_models, flat_model_of, formals, inner_signals, model_at, model_numbered, signals_of}
+use Rattle.vrt_model.specs.FlatBlif.{all_models, flat_model_of, formals, inner_signals, model_at, model_numbered, signals_of, unrolled_of}
 use Rattle.vrt_model.specs.Lists.{At}
 use Rattle.vrt_model.specs.Models.{bad_formal_after, interface_of}
 use Rattle.vrt_model.specs.Unsupported.{carried}
@@ -10,6 +10,7 @@ use Rattle.vrt_model.specs.declared.blif.BlifModel.{BlifModel}
 use Rattle.vrt_model.specs.declared.blif.CoverLine.{CoverLine}
 use Rattle.vrt_model.specs.declared.blif.SubLine.{SubLine}
 use Rattle.vrt_model.specs.declared.flat_model.Cover.{Cover}
+use Rattle.blif_flat.specs.Network.{rows_of}
 use Rattle.blif_flat.specs.declared.counts.Counted.{Counted}
 use Rattle.blif_flat.specs.declared.counts.Counted.TheVariants.{Signals, Rows, Subs}
 use Rattle.blif_flat.specs.declared.counts.Counts.{Counts}
@@ -31,11 +32,21 @@ within blif kind zero m = 0
 within blif kind (suc depth) m =
     sum_by (λ (s : SubLine). own blif kind (model_numbered blif s.model) (formals s) + within blif kind depth (model_numbered blif s.model)) (model_at blif m).subs
 
--- the counts of an unrolled model, each up to the greatest number of 64 bits
+-- the counts of an unrolled model without its network, each up to the greatest number of 64 bits
 pub record AreCounts (blif : Blif) (m : ℕ) (counts : Counts) : Type 0 where
+  pub signals : counts.signals ≡ carried (length (unrolled_of blif m).signals)
+  pub rows : counts.rows ≡ carried (sum_by (λ (c : Cover). length c.rows) (unrolled_of blif m).covers)
+  pub subs : counts.subs ≡ carried (length (all_models blif m) - 1)
+
+-- the counts of the flat model, with the network
+pub record AreFlatCounts (blif : Blif) (m : ℕ) (counts : Counts) : Type 0 where
   pub signals : counts.signals ≡ carried (length (flat_model_of blif m).signals)
   pub rows : counts.rows ≡ carried (sum_by (λ (c : Cover). length c.rows) (flat_model_of blif m).covers)
   pub subs : counts.subs ≡ carried (length (all_models blif m) - 1)
+
+-- counts with so many signals and rows more
+abbrev pub counts_with : Counts → ℕ → ℕ → Counts
+counts_with counts signals rows = record counts { signals = carried (counts.signals + signals); rows = carried (counts.rows + rows) }
 
 -- the ties of a sub-model fit the interface of its model
 pub record Fits (blif : Blif) (s : SubLine) : Type 0 where
@@ -47,7 +58,7 @@ AllFit blif = (m i : ℕ) (s : SubLine) → At (model_at blif m).subs i s → Fi
 -- ---- by tables
 
 abbrev pub rows_in : BlifModel → ℕ
-rows_in m = carried (sum_by (λ (c : CoverLine). length c.rows) m.covers)
+rows_in m = carried (rows_of m.covers)
 
 -- a sub-model, by the names of the models, their signals and their rows
 abbrev pub sub_inside : List (List ℕ) → List (List (List ℕ)) → List ℕ → SubLine → Inside

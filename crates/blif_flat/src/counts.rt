@@ -4,14 +4,15 @@ ghost use Rattle.std.specs.Prelude.{◌≡◌, ◌+◌, ℕ, [], None, List, map
 ghost use Rattle.vrt_model.specs.FlatBlif.{signals_of};
 ghost use Rattle.vrt_model.specs.Models.{bad_sub};
 ghost use Rattle.vrt_model.specs.Unsupported.{carried};
-ghost use Rattle.blif_flat.specs.Counts.{AreCounts, AreModelTables, AreSums, AreSumsOf, inside_in, rows_in, sub_inside, sum_over, weight};
+ghost use Rattle.blif_flat.specs.Counts.{AreCounts, AreModelTables, AreSums, AreSumsOf, counts_with, inside_in, rows_in, sub_inside, sum_over, weight};
+ghost use Rattle.blif_flat.specs.Network.{rows_of};
 ghost use Rattle.vrt_model.specs.declared.blif.Blif.{Blif as BlifValue};
 
 use crate::tables::ModelTables;
 use blif_checks::{number_of, signals_of};
 use names::Names;
 use std::alloc::Global;
-use vrt_model::{BlifModel, NoMemory, Seq, SubLine, Text};
+use vrt_model::{BlifModel, CoverLine, NoMemory, Seq, SubLine, Text};
 
 /// What is counted: signals, rows of covers, and sub-models.
 #[derive(Clone, Copy)]
@@ -29,7 +30,7 @@ pub(crate) struct Inside {
     pub rows: u64,
 }
 
-/// How many signals, rows of covers and sub-models an unrolled model has. A count past the greatest number of 64 bits
+/// How many signals, rows of covers and sub-models an unrolled model has, without its network or with it. A count past the greatest number of 64 bits
 /// is that number.
 #[derive(Clone, Copy)]
 pub(crate) struct Counts {
@@ -101,12 +102,12 @@ fn sums_of(alloc: Global, kind: Counted, all: &[Seq<Inside>]) -> Result<Seq<u64>
     Ok(sums)
 }
 
-/// How many rows the covers of a model have.
-fn rows_of(model: &BlifModel) -> u64
-    ensures { result ≡ rows_in model.now }
+/// How many rows covers have.
+pub(crate) fn rows_of(covers: &[CoverLine]) -> u64
+    ensures { result ≡ carried (rows_of covers.now) }
 {
     let mut rows = 0u64;
-    for cover in model.covers.as_slice() {
+    for cover in covers {
         rows = rows.saturating_add(cover.rows.len() as u64);
     }
     rows
@@ -118,7 +119,7 @@ fn all_rows(alloc: Global, models: &[BlifModel]) -> Result<Seq<u64>, NoMemory>
 {
     let mut rows = Seq::new(alloc);
     for model in models {
-        if rows.push(rows_of(model)).is_err() {
+        if rows.push(rows_of(model.covers.as_slice())).is_err() {
             return Err(NoMemory);
         }
     }
@@ -292,5 +293,16 @@ pub(crate) fn counts_of(tables: &ModelTables, model: usize) -> Counts
         signals: with_below(&sums.signals_below, model, own_signals),
         rows: with_below(&sums.rows_below, model, own_rows),
         subs: with_below(&sums.subs_below, model, 0),
+    }
+}
+
+/// Counts with so many signals and rows more.
+pub(crate) fn counts_with(counts: Counts, signals: u64, rows: u64) -> Counts
+    ensures { result ≡ counts_with counts signals rows }
+{
+    Counts {
+        signals: counts.signals.saturating_add(signals),
+        rows: counts.rows.saturating_add(rows),
+        subs: counts.subs,
     }
 }

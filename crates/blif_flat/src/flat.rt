@@ -3,19 +3,20 @@
 ghost use Rattle.std.specs.Prelude.{◌≡◌, ◌≤◌, ◌++◌, ◌∷◌, ℕ, Some, None, [], List, filter, map, not, length, IfOk, OnOk};
 ghost use Rattle.vrt_model.specs.Lists.{has_name};
 ghost use Rattle.names.specs.Names.{with_names};
-ghost use Rattle.vrt_model.specs.FlatBlif.{flat_model_of, model_at, signals_of};
+ghost use Rattle.vrt_model.specs.FlatBlif.{flat_model_of, model_at, network_names, signals_of, top_model, unrolled_of};
 ghost use Rattle.vrt_model.specs.Inputs.{IsBlif};
 ghost use Rattle.vrt_model.specs.Models.{AreModels, bad_sub};
-ghost use Rattle.vrt_model.specs.Unsupported.{model_limits, too_large};
-ghost use Rattle.blif_flat.specs.Counts.{AreModelTables};
+ghost use Rattle.vrt_model.specs.Unsupported.{carried, model_limits, too_large};
+ghost use Rattle.blif_flat.specs.Counts.{AreFlatCounts, AreModelTables};
 ghost use Rattle.blif_flat.specs.Flat.{FlatGives};
-ghost use Rattle.blif_flat.specs.Places.{HasRoom, IsInterface, number_in};
+ghost use Rattle.blif_flat.specs.Network.{rows_of};
+ghost use Rattle.blif_flat.specs.Places.{HasRoom, IsInterface, IsPlace, number_in, place_in};
 ghost use Rattle.blif_checks.specs.Tables.{AreTables};
-ghost use Rattle.vrt_model.specs.declared.blif.Blif.{Blif as BlifValue};
 
 use crate::FlatModelFault;
-use crate::counts::counts_of;
+use crate::counts::{Counts, counts_of, counts_with, rows_of};
 use crate::limits::first_above;
+use crate::network::{names_at, with_network};
 use crate::places::{Place, number_at, top_place};
 use crate::tables::{ModelTables, model_tables};
 use crate::unroll::{Parts, numbers_of, unroll};
@@ -24,11 +25,35 @@ use names::Names;
 use std::alloc::Global;
 use vrt_model::{Blif, BlifModel, FlatModel, NoMemory, Seq, Text};
 
-/// The first count of a model that passes its limit, if any does.
-fn count_above(tables: &ModelTables, model: usize) -> Option<u64>
-    ensures { (blif : BlifValue) → AreModelTables blif tables.now → bad_sub blif ≡ None → result ≡ too_large (model_limits blif model) }
+/// How many rows the network of the model of a number has.
+fn network_rows(blif: &Blif, model: usize) -> u64
+    ensures { result ≡ carried (rows_of (model_at blif.now model).exdc) }
 {
-    first_above(counts_of(tables, model))
+    match blif.models.get(model) {
+        Some(model) => rows_of(model.exdc.as_slice()),
+        None => 0,
+    }
+}
+
+/// The counts of a model with its network, by the names that this drives.
+fn all_counts(tables: &ModelTables, blif: &Blif, names: &Names, model: usize) -> Counts
+    requires tables { AreModelTables blif.now tables.now }
+    requires subs { bad_sub blif.now ≡ None }
+    requires names { names.now ≡ network_names (model_at blif.now model) }
+    ensures { AreFlatCounts blif.now model result }
+{
+    let rows = network_rows(blif, model);
+    counts_with(counts_of(tables, model), names.len() as u64, rows)
+}
+
+/// The first count of a model that passes its limit, if any does.
+fn count_above(tables: &ModelTables, blif: &Blif, names: &Names, model: usize) -> Option<u64>
+    requires tables { AreModelTables blif.now tables.now }
+    requires subs { bad_sub blif.now ≡ None }
+    requires names { names.now ≡ network_names (model_at blif.now model) }
+    ensures { result ≡ too_large (model_limits blif.now model) }
+{
+    first_above(all_counts(tables, blif, names, model))
 }
 
 /// The names of a list.
@@ -112,28 +137,30 @@ fn interface_at(alloc: Global, blif: &Blif, place: &Place) -> Result<Interface, 
     }
 }
 
-/// A model with its sub-models unrolled.
+/// A model with its sub-models unrolled, without its network.
 fn unrolled(
     alloc: Global,
     blif: &Blif,
     tables: &Tables,
     signals: &[Seq<Text>],
+    top: &Place,
     model: usize,
 ) -> Result<FlatModel, NoMemory>
     requires tables { AreTables blif.now tables.now }
     requires lists { signals.now ≡ map signals_of blif.now.models }
     requires subs { bad_sub blif.now ≡ None }
-    requires limit { length (flat_model_of blif.now model).signals ≤ 20000 }
-    ensures { IfOk result (λ flat. flat ≡ flat_model_of blif.now model) }
+    requires place { IsPlace blif.now top.now }
+    requires is_top { place_in top.now ≡ top_model model }
+    requires limit { length (unrolled_of blif.now model).signals ≤ 20000 }
+    ensures { IfOk result (λ flat. flat ≡ unrolled_of blif.now model) }
 {
-    let top = top_place(alloc, blif, signals, model)?;
     let mut parts = Parts {
         signals: Seq::new(alloc),
         covers: Seq::new(alloc),
         latches: Seq::new(alloc),
     };
-    unroll(alloc, blif, tables, signals, &top, 32, &mut parts)?;
-    let interface = interface_at(alloc, blif, &top)?;
+    unroll(alloc, blif, tables, signals, top, 32, &mut parts)?;
+    let interface = interface_at(alloc, blif, top)?;
     Ok(FlatModel {
         signals: parts.signals,
         inputs: interface.inputs,
@@ -141,11 +168,36 @@ fn unrolled(
         outputs: interface.outputs,
         covers: parts.covers,
         latches: parts.latches,
+        dontcares: Seq::new(alloc),
     })
 }
 
+/// A model with its sub-models unrolled and its network behind it, by the names that this drives.
+fn flat_of(
+    alloc: Global,
+    blif: &Blif,
+    tables: &Tables,
+    signals: &[Seq<Text>],
+    names: &Names,
+    model: usize,
+) -> Result<FlatModel, NoMemory>
+    requires tables { AreTables blif.now tables.now }
+    requires lists { signals.now ≡ map signals_of blif.now.models }
+    requires subs { bad_sub blif.now ≡ None }
+    requires names { names.now ≡ network_names (model_at blif.now model) }
+    requires limit { length (flat_model_of blif.now model).signals ≤ 20000 }
+    ensures { IfOk result (λ flat. flat ≡ flat_model_of blif.now model) }
+{
+    let top = top_place(alloc, blif, signals, model)?;
+    let own = unrolled(alloc, blif, tables, signals, &top, model)?;
+    match blif.models.get(model) {
+        Some(of) => with_network(alloc, &top, names, of, own),
+        None => Ok(own),
+    }
+}
+
 /// A model with its sub-models unrolled, or the first count that passes its limit.
-#[tactic(auto, using(crate::proofs::FlatLaws::signals_within, crate::proofs::OneDriverLaws::is_flat))]
+#[tactic(auto, using(crate::proofs::FlatLaws::signals_within, crate::proofs::NetworkLaws::is_flat))]
 fn unrolled_within(
     alloc: Global,
     tables: &ModelTables,
@@ -157,14 +209,18 @@ fn unrolled_within(
     requires models { AreModels blif.now }
     ensures { FlatGives blif.now model result }
 {
-    if let Some(count) = count_above(tables, model) {
+    let Ok(names) = names_at(alloc, blif, model) else {
+        return Err(FlatModelFault::NoMemory);
+    };
+    if let Some(count) = count_above(tables, blif, &names, model) {
         return Err(FlatModelFault::Limit { count });
     }
-    match unrolled(
+    match flat_of(
         alloc,
         blif,
         &tables.tables,
         tables.signals.as_slice(),
+        &names,
         model,
     ) {
         Ok(flat) => Ok(flat),
@@ -191,8 +247,9 @@ pub fn flat_model_with(
 /// A model by its number with its sub-models unrolled, as in Berkeley BLIF's `.subckt`. The flat signals are the model's
 /// own in their order, which is inputs, clocks, outputs, then by first mention in covers, latches and ties; then, card by
 /// card, those of each sub-model that are not tied, each with its path before it: the numbers of the `.subckt` cards from
-/// 0 on, as in `2/q`. Each flat signal has exactly one driver: an input or clock of the model, a cover or a latch. A number
-/// that no model has gives an empty flat model. `Limit` comes exactly where signals, rows of
+/// 0 on, as in `2/q`; then those that the don't-care network of the model drives, each with `#dc` behind its name, and behind
+/// all covers those of the network. Each flat signal has exactly one driver: an input or clock of the model, a cover or a
+/// latch. A number that no model has gives an empty flat model. `Limit` comes exactly where signals, rows of
 /// covers or sub-models pass their limit, and is found before anything is unrolled, in time in proportion to the cards.
 pub fn flat_model(alloc: Global, blif: &Blif, model: u32) -> Result<FlatModel, FlatModelFault>
     requires blif { IsBlif blif.now }

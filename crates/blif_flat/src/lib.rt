@@ -5,6 +5,7 @@ mod counts;
 mod faults;
 mod flat;
 mod limits;
+mod network;
 mod places;
 mod tables;
 mod unroll;

@@ -37,7 +37,7 @@ pub(crate) fn numbers_of(alloc: Global, place: &Place, names: &[Text]) -> Result
 }
 
 /// Copies of texts.
-fn copies_of(alloc: Global, texts: &[Text]) -> Result<Seq<Text>, NoMemory>
+pub(crate) fn copies_of(alloc: Global, texts: &[Text]) -> Result<Seq<Text>, NoMemory>
     ensures { IfOk result (λ copies. copies ≡ texts.now) }
 {
     let mut copies = Seq::new(alloc);

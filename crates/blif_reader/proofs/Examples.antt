@@ -49,6 +49,7 @@ nand_is : blif_of (cards_of (file nand_lines)) ≡ record {
             ∷ record { line = 11; input = codes "y"; output = codes "r"; kind = None; control = None; init = 3 }
             ∷ record { line = 12; input = codes "y"; output = codes "s"; kind = Some Re; control = None; init = 3 } ∷ [];
         subs = record { line = 16; model = codes "sub"; ties = record { formal = codes "p"; actual = codes "a" } ∷ record { formal = codes "o"; actual = codes "x=y" } ∷ [] } ∷ [];
+        exdc = [];
       } ∷ [];
 }
 unfolding blif_of cards_of words_of text_lines is_text
@@ -61,11 +62,58 @@ nand_good = refl
 -- `.model` ends the model before, a stray `.end` is passed over
 two_models : blif_of (cards_of (file (codes ".end" ∷ codes ".model a x" ∷ codes ".model b" ∷ codes ".end" ∷ codes ".end" ∷ []))) ≡ record {
   models =
-      record { line = 2; name = codes "a"; inputs = []; input_lines = []; clocks = []; clock_lines = []; outputs = []; output_lines = []; covers = []; latches = []; subs = [] }
-      ∷ record { line = 3; name = codes "b"; inputs = []; input_lines = []; clocks = []; clock_lines = []; outputs = []; output_lines = []; covers = []; latches = []; subs = [] } ∷ [];
+      record { line = 2; name = codes "a"; inputs = []; input_lines = []; clocks = []; clock_lines = []; outputs = []; output_lines = []; covers = []; latches = []; subs = []; exdc = [] }
+      ∷ record { line = 3; name = codes "b"; inputs = []; input_lines = []; clocks = []; clock_lines = []; outputs = []; output_lines = []; covers = []; latches = []; subs = []; exdc = [] } ∷ [];
 }
 unfolding blif_of cards_of words_of text_lines is_text
 two_models = refl
+
+-- a don't-care network: its lists of signals are passed over, and it ends with its model
+abbrev network_lines : List (List ℕ)
+network_lines =
+    codes ".model m" ∷ codes ".inputs a" ∷ codes ".outputs y" ∷ codes ".names a y" ∷ codes "1 1" ∷ codes ".exdc x" ∷ codes ".inputs b" ∷ codes ".outputs z" ∷ codes ".names a y" ∷ codes "0 1" ∷ codes ".end"
+    ∷ codes ".model n" ∷ codes ".clock c" ∷ codes ".exdc" ∷ []
+
+network_is : blif_of (cards_of (file network_lines)) ≡ record {
+  models =
+      record {
+        line = 1;
+        name = codes "m";
+        inputs = codes "a" ∷ [];
+        input_lines = 2 ∷ [];
+        clocks = [];
+        clock_lines = [];
+        outputs = codes "y" ∷ [];
+        output_lines = 3 ∷ [];
+        covers = record { line = 4; inputs = codes "a" ∷ []; output = codes "y"; on = true; rows = codes "1" ∷ [] } ∷ [];
+        latches = [];
+        subs = [];
+        exdc = record { line = 9; inputs = codes "a" ∷ []; output = codes "y"; on = true; rows = codes "0" ∷ [] } ∷ [];
+      }
+      ∷ record { line = 12; name = codes "n"; inputs = []; input_lines = []; clocks = codes "c" ∷ []; clock_lines = 13 ∷ []; outputs = []; output_lines = []; covers = []; latches = []; subs = []; exdc = [] } ∷ [];
+}
+unfolding blif_of cards_of words_of text_lines is_text
+network_is = refl
+
+network_good : fault_in network_lines ≡ None
+unfolding cards_of words_of text_lines is_text fault_by known_by
+network_good = refl
+
+-- what a don't-care network cannot have: another one, latches, clocks, sub-models, rows of no cover
+network_faults : map fault_in (
+    (codes ".model m" ∷ codes ".exdc" ∷ codes ".exdc" ∷ [])
+    ∷ (codes ".model m" ∷ codes ".exdc" ∷ codes ".latch a y as c" ∷ [])
+    ∷ (codes ".model m" ∷ codes ".exdc" ∷ codes ".clock a" ∷ [])
+    ∷ (codes ".model m" ∷ codes ".exdc" ∷ codes ".subckt x a=a" ∷ [])
+    ∷ (codes ".model m" ∷ codes ".names a y" ∷ codes ".exdc" ∷ codes "1 1" ∷ [])
+    ∷ (codes ".model m" ∷ codes ".exdc" ∷ codes ".names a y" ∷ codes ".inputs a" ∷ codes "1 1" ∷ [])
+    ∷ (codes ".model m" ∷ codes ".exdc" ∷ codes ".names a y" ∷ codes "11 1" ∷ [])
+    ∷ (codes ".model m" ∷ codes ".end" ∷ codes ".exdc" ∷ [])
+    ∷ (codes ".model m" ∷ codes ".exdc" ∷ codes ".model n" ∷ codes ".latch a y" ∷ []) ∷ [])
+    ≡ Some (Unsupported 3 (codes ".exdc")) ∷ Some (Unsupported 3 (codes ".latch")) ∷ Some (Unsupported 3 (codes ".clock")) ∷ Some (Unsupported 3 (codes ".subckt")) ∷ Some (Unsupported 4 (codes "1"))
+    ∷ Some (Unsupported 5 (codes "1")) ∷ Some (Row 4) ∷ Some (OutsideModel 3) ∷ None ∷ []
+unfolding cards_of words_of text_lines is_text fault_by known_by
+network_faults = refl
 
 -- rows that do not fit: too long, behind another card, of an output that is no bit, mixed
 rows : map fault_in (

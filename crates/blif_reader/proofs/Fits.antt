@@ -17,7 +17,7 @@ use Rattle.vrt_model.specs.declared.blif.BlifModel.{BlifModel}
 use Rattle.vrt_model.specs.declared.blif.LatchKind.{LatchKind}
 use Rattle.vrt_model.specs.declared.blif.LatchLine.{LatchLine}
 use Rattle.blif_reader.specs.Learned.{cover_behind, with_row}
-use Rattle.blif_reader.specs.Models.{begins_model, blif_of, cover_inputs, cover_of, end_of, ends_model, first_output, init_of, is_cover, is_dotted, is_latch, is_sub, latch_end, latch_kind, latch_of, latches_in, listed, lines, model_name, model_of, names, row_inputs, with_kind}
+use Rattle.blif_reader.specs.Models.{begins_model, blif_of, cover_inputs, cover_of, covers_in, end_of, ends_model, first_output, init_of, is_cover, is_dotted, is_exdc, is_latch, is_sub, latch_end, latch_kind, latch_of, latches_in, listed, lines, model_name, model_of, names, network_cards, own_cards, row_inputs, with_kind}
 use Rattle.blif_reader.specs.Refused.{fault_by, fault_of, faults_on, fits, is_bad_row, is_input_byte, is_model_twice, is_output_word, is_row, is_short, known_by, passes_limit}
 use Rattle.blif_reader.specs.declared.cards.Card.{Card}
 use Rattle.blif_reader.specs.declared.known.Known.{Known}
@@ -124,7 +124,7 @@ few_inputs known card none h =
     let no = (or_parts (begins_model card && nat_le 4096 (length known.models)) (is_cover card && nat_lt 1000 (length (cover_inputs card))) (within_limit known card none)).1 in
     ltb-false 1000 (length (cover_inputs card)) (and_no (is_cover card) (nat_lt 1000 (length (cover_inputs card))) no h)
 
-covers_fit : (before body : List Card) → CleanFrom fault_of before body → All IsCoverLine (map cover_of (groups is_cover is_dotted body))
+covers_fit : (before body : List Card) → CleanFrom fault_of before body → All IsCoverLine (covers_in body)
 covers_fit before [] clean = All-nil IsCoverLine
 covers_fit before (card ∷ body) clean = by_test (is_cover card) refl (covers_fit (before ++ card ∷ []) body clean.1) where
   opened : is_cover card ≡ true → (known_by (before ++ card ∷ [])).cover ≡ Some (record { width = length (cover_inputs card); first = None })
@@ -143,6 +143,14 @@ covers_fit before (card ∷ body) clean = by_test (is_cover card) refl (covers_f
       → All IsCoverLine (map cover_of (cond b ((card, up_to is_dotted body) ∷ groups is_cover is_dotted body) (groups is_cover is_dotted body)))
   by_test true h rest = All-cons IsCoverLine (cover_of (card, up_to is_dotted body)) (map cover_of (groups is_cover is_dotted body)) (one h) rest
   by_test false h rest = rest
+
+-- the covers of a don't-care network
+network_fits : (before body : List Card) → CleanFrom fault_of before body → All IsCoverLine (covers_in (network_cards body))
+network_fits before [] clean = All-nil IsCoverLine
+network_fits before (card ∷ body) clean = by_test (is_exdc card) (network_fits (before ++ card ∷ []) body clean.1) where
+  by_test : (b : Bool) → All IsCoverLine (covers_in (network_cards body)) → All IsCoverLine (covers_in (cond b body (network_cards body)))
+  by_test true rest = covers_fit (before ++ card ∷ []) body clean.1
+  by_test false rest = rest
 
 -- ---- latches
 
@@ -204,11 +212,12 @@ model_fits before card body clean = record {
   inputs = distinct_by_apart (λ (s : Listed). s.name) _;
   clocks = distinct_by_apart (λ (s : Listed). s.name) _;
   outputs = distinct_by_apart (λ (s : Listed). s.name) _;
-  input_lines = as_many (listed (codes ".inputs") body);
-  clock_lines = as_many (listed (codes ".clock") body);
-  output_lines = as_many (listed (codes ".outputs") body);
-  covers = covers_fit before body clean;
-  latches = latches_fit body;
+  input_lines = as_many (listed (codes ".inputs") (own_cards body));
+  clock_lines = as_many (listed (codes ".clock") (own_cards body));
+  output_lines = as_many (listed (codes ".outputs") (own_cards body));
+  covers = covers_fit before (own_cards body) (clean_up_to fault_of is_exdc before body clean);
+  latches = latches_fit (own_cards body);
+  exdc = network_fits before body clean;
 }
 
 models_fit : (before cards : List Card) → CleanFrom fault_of before cards → All IsModel (map model_of (groups begins_model ends_model cards))

@@ -9,9 +9,9 @@ use Rattle.names.specs.Names.{with_name}
 use Rattle.text_lines.proofs.GroupLaws.{listed_more, open_anew, open_goes_on, open_shuts, with_end}
 use Rattle.names.proofs.NameLaws.{distinct_more}
 use Rattle.blif_reader.specs.Cards.{first_word, has_first}
-use Rattle.blif_reader.specs.Learned.{cover_behind, inside_behind, learned, models_behind, with_row}
-use Rattle.blif_reader.specs.Models.{begins_model, cover_inputs, ends_model, first_output, is_cover, is_dotted, is_on, model_name}
-use Rattle.blif_reader.specs.Refused.{known_by, open_cover, told_of}
+use Rattle.blif_reader.specs.Learned.{cover_behind, learned, models_behind, open_behind, with_row}
+use Rattle.blif_reader.specs.Models.{begins_model, cover_inputs, ends_model, first_output, is_cover, is_dotted, is_exdc, is_on, model_name}
+use Rattle.blif_reader.specs.Refused.{ends_network, known_by, open_cover, told_of}
 use Rattle.blif_reader.specs.declared.cards.Card.{Card}
 use Rattle.blif_reader.specs.declared.known.Known.{Known}
 use Rattle.blif_reader.specs.declared.known.OpenCover.{OpenCover}
@@ -25,25 +25,25 @@ models_more before card = ap distinct (listed_more begins_model model_name befor
   by_test true ns card = distinct_more ns (model_name card ∷ [])
   by_test false ns card = ap distinct (append-nil ns)
 
--- ---- the open model
+-- ---- the open model and the open network
 
 still_open : {X : Type 0} (x : X) (o : Option (X × List X)) → is_some (option_map (with_end x) o) ≡ is_some o
 still_open x None = refl
 still_open x (Some g) = refl
 
-inside_more : (before : List Card) (card : Card) (b e : Bool) → begins_model card ≡ b → ends_model card ≡ e
-    → is_some (open_group begins_model ends_model (before ++ card ∷ [])) ≡ inside_behind (is_some (open_group begins_model ends_model before)) card
-inside_more before card true e h k =
-    let inside = is_some (open_group begins_model ends_model before) in
-    ap is_some (open_anew begins_model ends_model before card h (ap (λ b. b || has_first (codes ".end") card) h))
-    ∙ ap (λ b. cond b true (cond (ends_model card) false inside)) (sym h)
-inside_more before card false true h k =
-    let inside = is_some (open_group begins_model ends_model before) in
-    ap is_some (open_shuts begins_model ends_model before card h k) ∙ ap₂ (λ b e. cond b true (cond e false inside)) (sym h) (sym k)
-inside_more before card false false h k =
-    let inside = is_some (open_group begins_model ends_model before) in
-    ap is_some (open_goes_on begins_model ends_model before card h k) ∙ still_open card (open_group begins_model ends_model before)
-    ∙ ap₂ (λ b e. cond b true (cond e false inside)) (sym h) (sym k)
+module _ (begins ends : Card → Bool) where
+  open_more : (before : List Card) (card : Card) (b e : Bool) → begins card ≡ b → ends card ≡ e → (begins card ≡ true → ends card ≡ true)
+      → is_some (open_group begins ends (before ++ card ∷ [])) ≡ open_behind begins ends (is_some (open_group begins ends before)) card
+  open_more before card true e h k both =
+      let was = is_some (open_group begins ends before) in
+      ap is_some (open_anew begins ends before card h (both h)) ∙ ap (λ b. cond b true (cond (ends card) false was)) (sym h)
+  open_more before card false true h k both =
+      let was = is_some (open_group begins ends before) in
+      ap is_some (open_shuts begins ends before card h k) ∙ ap₂ (λ b e. cond b true (cond e false was)) (sym h) (sym k)
+  open_more before card false false h k both =
+      let was = is_some (open_group begins ends before) in
+      ap is_some (open_goes_on begins ends before card h k) ∙ still_open card (open_group begins ends before)
+      ∙ ap₂ (λ b e. cond b true (cond e false was)) (sym h) (sym k)
 
 -- ---- the open cover
 
@@ -79,10 +79,12 @@ pub known_more : (before : List Card) (card : Card) → known_by (before ++ card
 unfolding known_by
 known_more before card =
     let a = models_more before card in
-    let b = inside_more before card (begins_model card) (ends_model card) refl refl in
+    let b = open_more begins_model ends_model before card (begins_model card) (ends_model card) refl refl (λ h. ap (λ b. b || has_first (codes ".end") card) h) in
+    let d = open_more is_exdc ends_network before card (is_exdc card) (ends_network card) refl refl (λ h. ap (λ b. b || ends_model card) h) in
     let c = cover_more before card (is_cover card) (is_dotted card) refl refl in
-    joined_by a b c where
-      joined_by : {m n : List (List ℕ)} {i j : Bool} {o p : Option OpenCover} → m ≡ n → i ≡ j → o ≡ p
-          → (let k : Known = record { models = m; is_inside = i; cover = o } in k) ≡ (let k : Known = record { models = n; is_inside = j; cover = p } in k)
-      joined_by {m} {n} {i} {j} {o} {p} a b c =
-          ap (λ x. let k : Known = record { models = x; is_inside = i; cover = o } in k) a ∙ ap₂ (λ x y. let k : Known = record { models = n; is_inside = x; cover = y } in k) b c
+    joined_by a b d c where
+      joined_by : {m n : List (List ℕ)} {i j u v : Bool} {o p : Option OpenCover} → m ≡ n → i ≡ j → u ≡ v → o ≡ p
+          → (let k : Known = record { models = m; is_inside = i; in_network = u; cover = o } in k) ≡ (let k : Known = record { models = n; is_inside = j; in_network = v; cover = p } in k)
+      joined_by {m} {n} {i} {j} {u} {v} {o} {p} a b d c =
+          ap₂ (λ x y. let k : Known = record { models = x; is_inside = y; in_network = u; cover = o } in k) a b
+          ∙ ap₂ (λ x y. let k : Known = record { models = n; is_inside = j; in_network = x; cover = y } in k) d c

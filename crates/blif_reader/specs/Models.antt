@@ -35,6 +35,10 @@ is_latch card = has_first (codes ".latch") card
 abbrev pub is_sub : Card → Bool
 is_sub card = has_first (codes ".subckt") card
 
+-- `.exdc` begins the don't-care network of its model, which ends with the model.
+abbrev pub is_exdc : Card → Bool
+is_exdc card = has_first (codes ".exdc") card
+
 -- a card that begins with `.`, which ends a cover; the others are rows
 abbrev pub is_dotted : Card → Bool
 is_dotted card = starts 46 (first_word card)
@@ -154,12 +158,26 @@ sub_of card = record { line = card.line; model = word_at card.words 1; ties = ma
 abbrev pub model_name : Card → List ℕ
 model_name card = word_at card.words 1
 
+-- the cards of a model before its don't-care network
+abbrev pub own_cards : List Card → List Card
+own_cards body = up_to is_exdc body
+
+-- the cards of its don't-care network: those behind the first `.exdc`
+abbrev pub network_cards : List Card → List Card
+network_cards [] = []
+network_cards (card ∷ cards) = if is_exdc card then cards else network_cards cards
+
+-- the covers of cards
+abbrev pub covers_in : List Card → List CoverLine
+covers_in cards = map cover_of (groups is_cover is_dotted cards)
+
 -- a `.model` card and the cards of its model
 abbrev pub model_of : Card × List Card → BlifModel
 model_of group =
-    let inputs = listed (codes ".inputs") group.1 in
-    let clocks = listed (codes ".clock") group.1 in
-    let outputs = listed (codes ".outputs") group.1 in
+    let own = own_cards group.1 in
+    let inputs = listed (codes ".inputs") own in
+    let clocks = listed (codes ".clock") own in
+    let outputs = listed (codes ".outputs") own in
     record {
       line = group.0.line;
       name = model_name group.0;
@@ -169,9 +187,10 @@ model_of group =
       clock_lines = lines clocks;
       outputs = names outputs;
       output_lines = lines outputs;
-      covers = map cover_of (groups is_cover is_dotted group.1);
-      latches = flat_map latches_in group.1;
-      subs = map sub_of (filter is_sub group.1);
+      covers = covers_in own;
+      latches = flat_map latches_in own;
+      subs = map sub_of (filter is_sub own);
+      exdc = covers_in (network_cards group.1);
     }
 
 unfoldable pub blif_of : List Card → Blif

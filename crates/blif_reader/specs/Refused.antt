@@ -1,12 +1,12 @@
 -- The faults of a BLIF text.
-use Rattle.std.specs.Prelude.{ℕ, List, [], ◌∷◌, Bool, true, false, not, ◌==◌, ◌||◌, ◌&&◌, nat_lt, nat_le, length, map, filter, drop, codes, bytes_eq, is_some, is_none, Option, Some, None, option_map}
+use Rattle.std.specs.Prelude.{ℕ, List, [], ◌∷◌, Bool, true, false, not, ◌==◌, ◌||◌, ◌&&◌, if◌then◌else◌, nat_lt, nat_le, length, map, filter, drop, codes, bytes_eq, is_some, is_none, Option, Some, None, option_map}
 use Rattle.std.specs.List.{list_all, list_any}
 use Rattle.text_lines.specs.Faults.{first_fault, first_of, when}
 use Rattle.text_lines.specs.Groups.{open_group}
 use Rattle.vrt_model.specs.Lists.{distinct, has_name, is_empty}
 use Rattle.text_lines.specs.Words.{word_at}
 use Rattle.blif_reader.specs.Cards.{first_word}
-use Rattle.blif_reader.specs.Models.{begins_model, cover_inputs, end_of, ends_model, first_output, is_cover, is_dotted, is_latch, is_on, is_sub, model_name, tie_of}
+use Rattle.blif_reader.specs.Models.{begins_model, cover_inputs, end_of, ends_model, first_output, is_cover, is_dotted, is_exdc, is_latch, is_on, is_sub, model_name, tie_of}
 use Rattle.blif_reader.specs.declared.cards.Card.{Card}
 use Rattle.blif_reader.specs.declared.faults.BlifFault.{BlifFault}
 use Rattle.blif_reader.specs.declared.faults.BlifFault.TheVariants.{NotText, Unsupported, OutsideModel, Row, MixedRows, LatchForm, Formal, ModelTwice, Short, Limit}
@@ -22,24 +22,38 @@ open_cover before = open_group is_cover is_dotted before
 abbrev pub told_of : Card × List Card → OpenCover
 told_of group = record { width = length (cover_inputs group.0); first = first_output group.1 }
 
--- what the cards before a card tell of it: the names of all models, whether a model is open, and of an open cover how
--- many inputs it has and the output of its first row
+-- A don't-care network goes on to the end of its model.
+abbrev pub ends_network : Card → Bool
+ends_network card = is_exdc card || ends_model card
+
+-- what the cards before a card tell of it: the names of all models, whether a model is open, whether a don't-care network
+-- is, and of an open cover how many inputs it has and the output of its first row
 unfoldable pub known_by : List Card → Known
 known_by before = record {
   models = distinct (map model_name (filter begins_model before));
   is_inside = is_some (open_group begins_model ends_model before);
+  in_network = is_some (open_group is_exdc ends_network before);
   cover = option_map told_of (open_cover before);
 }
 
 -- ---- the conditions
 
--- any other card that begins with `.`
+-- the cards of a model that begin with `.`
 abbrev pub is_known : Card → Bool
 is_known card =
-    has_name (codes ".model" ∷ codes ".end" ∷ codes ".inputs" ∷ codes ".clock" ∷ codes ".outputs" ∷ codes ".names" ∷ codes ".latch" ∷ codes ".subckt" ∷ []) (first_word card)
+    has_name (codes ".model" ∷ codes ".end" ∷ codes ".inputs" ∷ codes ".clock" ∷ codes ".outputs" ∷ codes ".names" ∷ codes ".latch" ∷ codes ".subckt" ∷ codes ".exdc" ∷ []) (first_word card)
 
-abbrev pub is_other : Card → Bool
-is_other card = is_dotted card && not (is_known card)
+-- those of its don't-care network, where `.inputs` and `.outputs` are passed over, and the ends of both
+abbrev pub is_known_there : Card → Bool
+is_known_there card = has_name (codes ".model" ∷ codes ".end" ∷ codes ".inputs" ∷ codes ".outputs" ∷ codes ".names" ∷ []) (first_word card)
+
+-- one of these, or behind a cover a row
+abbrev pub goes_there : Option OpenCover → Card → Bool
+goes_there cover card = if is_dotted card then is_known_there card else is_some cover
+
+-- any other card that begins with `.`, and in a don't-care network any other card
+abbrev pub is_other : Known → Card → Bool
+is_other known card = if known.in_network then not (goes_there known.cover card) else is_dotted card && not (is_known card)
 
 -- the latch type `as`, which is there only with four or five words behind `.latch`
 abbrev pub is_as_latch : Card → Bool
@@ -114,7 +128,7 @@ passes_limit known card =
 abbrev pub faults_on : Known → Card → List (Option BlifFault)
 faults_on known card =
     when (not card.is_all_text) (NotText card.line)
-    ∷ when (is_other card) (Unsupported card.line (first_word card))
+    ∷ when (is_other known card) (Unsupported card.line (first_word card))
     ∷ when (is_as_latch card) (Unsupported card.line (codes "as"))
     ∷ when (is_outside known card) (OutsideModel card.line)
     ∷ when (is_bad_row known card) (Row card.line)

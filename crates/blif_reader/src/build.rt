@@ -2,14 +2,14 @@
 
 ghost use Rattle.std.specs.Prelude.{◌≡◌, ◌++◌, ◌∷◌, filter, flat_map, map, IfOk, OnOk};
 ghost use Rattle.text_lines.specs.Groups.{groups, up_to};
-ghost use Rattle.blif_reader.specs.Models.{begins_model, blif_of, cover_of, ends_model, is_cover, is_dotted, is_sub, latches_in, model_of, sub_of};
+ghost use Rattle.blif_reader.specs.Models.{begins_model, blif_of, covers_in, ends_model, is_sub, latches_in, model_of, network_cards, own_cards, sub_of};
 
 use crate::cards::Card;
 use crate::covers::covers_of;
 use crate::latches::latches_of;
 use crate::signals::signals_of;
 use crate::subs::subs_of;
-use crate::words::{name_of, opens, shuts};
+use crate::words::{is_exdc_card, name_of, opens, shuts};
 use std::alloc::Global;
 use vrt_model::{Blif, BlifModel, CoverLine, LatchLine, NoMemory, Seq, SubLine, Text};
 
@@ -27,12 +27,40 @@ fn before_end(cards: &[Card]) -> &[Card]
     cards
 }
 
+/// The cards of a model before its don't-care network.
+fn own_part(body: &[Card]) -> &[Card]
+    ensures { result.now ≡ own_cards body.now }
+{
+    let mut at = 0;
+    'cards: while at < body.len() {
+        if is_exdc_card(&body[at]) {
+            return &body[..at];
+        }
+        at += 1;
+    }
+    body
+}
+
+/// The cards of its don't-care network.
+fn network_part(body: &[Card]) -> &[Card]
+    ensures { result.now ≡ network_cards body.now }
+{
+    let mut at = 0;
+    'cards: while at < body.len() {
+        if is_exdc_card(&body[at]) {
+            return &body[at + 1..];
+        }
+        at += 1;
+    }
+    &[]
+}
+
 /// The covers, the latches and the sub-models on cards.
 fn parts_of(
     alloc: Global,
     body: &[Card],
 ) -> Result<(Seq<CoverLine>, Seq<LatchLine>, Seq<SubLine>), NoMemory>
-    ensures { IfOk result (λ three. (three.0 ≡ map cover_of (groups is_cover is_dotted body.now)) × (three.1 ≡ flat_map latches_in body.now) × (three.2 ≡ map sub_of (filter is_sub body.now))) }
+    ensures { IfOk result (λ three. (three.0 ≡ covers_in body.now) × (three.1 ≡ flat_map latches_in body.now) × (three.2 ≡ map sub_of (filter is_sub body.now))) }
 {
     let covers = covers_of(alloc, body)?;
     let latches = latches_of(alloc, body)?;
@@ -44,11 +72,13 @@ fn parts_of(
 fn model(alloc: Global, first: &Card, body: &[Card]) -> Result<BlifModel, NoMemory>
     ensures { IfOk result (λ m. m ≡ model_of (first.now, body.now)) }
 {
+    let own = own_part(body);
     let name = Text::from_bytes(alloc, name_of(first))?;
-    let (inputs, input_lines) = signals_of(alloc, b".inputs".as_slice(), body)?;
-    let (clocks, clock_lines) = signals_of(alloc, b".clock".as_slice(), body)?;
-    let (outputs, output_lines) = signals_of(alloc, b".outputs".as_slice(), body)?;
-    let (covers, latches, subs) = parts_of(alloc, body)?;
+    let (inputs, input_lines) = signals_of(alloc, b".inputs".as_slice(), own)?;
+    let (clocks, clock_lines) = signals_of(alloc, b".clock".as_slice(), own)?;
+    let (outputs, output_lines) = signals_of(alloc, b".outputs".as_slice(), own)?;
+    let exdc = covers_of(alloc, network_part(body))?;
+    let (covers, latches, subs) = parts_of(alloc, own)?;
     Ok(BlifModel {
         line: first.line,
         name,
@@ -61,6 +91,7 @@ fn model(alloc: Global, first: &Card, body: &[Card]) -> Result<BlifModel, NoMemo
         covers,
         latches,
         subs,
+        exdc,
     })
 }
 

@@ -4,15 +4,16 @@ ghost use Rattle.std.specs.Prelude.{◌≡◌, ◌≤◌, ◌<◌, ◌+◌, ◌^
 ghost use Rattle.text_lines.specs.Faults.{IsClean, IsFirst, Judges};
 ghost use Rattle.blif_reader.specs.Cards.{cards_of};
 ghost use Rattle.blif_reader.specs.Opened.{cards_left};
-ghost use Rattle.blif_reader.specs.Refused.{fault_by, fault_of, known_by};
-ghost use Rattle.blif_reader.specs.Learned.{cover_behind, inside_behind, learned, models_behind, Reads, with_row};
+ghost use Rattle.blif_reader.specs.Refused.{ends_network, fault_by, fault_of, known_by};
+ghost use Rattle.blif_reader.specs.Learned.{cover_behind, learned, models_behind, open_behind, Reads, with_row};
+ghost use Rattle.blif_reader.specs.Models.{begins_model, ends_model, is_exdc};
 
 use crate::BlifFault;
 use crate::cards::{Card, Reading, next_card};
 use crate::covers::{inputs_of, is_on_row};
 use crate::judge::judge;
 use crate::known::{Known, OpenCover};
-use crate::words::{has_dot, is_cover_card, name_of, opens, shuts};
+use crate::words::{has_dot, is_cover_card, is_exdc_card, name_of, opens, shuts};
 use names::Names;
 use std::alloc::Global;
 use vrt_model::{NoMemory, Seq};
@@ -30,7 +31,7 @@ fn learn_model(models: &mut Names, card: &Card) -> Result<(), NoMemory>
 
 /// Whether a model is open behind a card.
 fn is_inside_behind(is_inside: bool, card: &Card) -> bool
-    ensures { result ≡ inside_behind is_inside card.now }
+    ensures { result ≡ open_behind begins_model ends_model is_inside card.now }
 {
     if opens(card) {
         return true;
@@ -39,6 +40,19 @@ fn is_inside_behind(is_inside: bool, card: &Card) -> bool
         return false;
     }
     is_inside
+}
+
+/// Whether a don't-care network is open behind a card.
+fn in_network_behind(in_network: bool, card: &Card) -> bool
+    ensures { result ≡ open_behind is_exdc ends_network in_network card.now }
+{
+    if is_exdc_card(card) {
+        return true;
+    }
+    if shuts(card) {
+        return false;
+    }
+    in_network
 }
 
 /// A cover with a row more.
@@ -80,6 +94,7 @@ fn learn(known: &mut Known, card: &Card) -> Result<(), NoMemory>
 {
     learn_model(&mut known.models, card)?;
     known.is_inside = is_inside_behind(known.is_inside, card);
+    known.in_network = in_network_behind(known.in_network, card);
     known.cover = cover_after(known.cover, card);
     Ok(())
 }
@@ -161,6 +176,7 @@ pub fn read_cards(alloc: Global, text: &[u8]) -> Result<Seq<Card>, BlifFault>
     let mut known = Known {
         models: Names::new(alloc),
         is_inside: false,
+        in_network: false,
         cover: None,
     };
     let mut cards = Seq::new(alloc);

@@ -2,7 +2,7 @@
 
 ghost use Rattle.std.specs.Prelude.{◌≡◌, ◌++◌, ◌∷◌, [], true, map, unwrap_or, codes, bytes_eq, IfOk, OnOk};
 ghost use Rattle.text_lines.specs.Groups.{groups, up_to};
-ghost use Rattle.blif_reader.specs.Models.{cover_inputs, cover_output, cover_of, first_output, is_cover, is_dotted, is_on, row_inputs};
+ghost use Rattle.blif_reader.specs.Models.{cover_inputs, cover_output, cover_of, covers_in, first_output, is_cover, is_dotted, is_on, row_inputs};
 
 use crate::cards::Card;
 use crate::words::{end, front, has_dot, is_cover_card, words_from};
@@ -117,9 +117,9 @@ fn add_cover(
     }
 }
 
-/// The covers of the cards of a model.
+/// The covers of cards.
 pub fn covers_of(alloc: Global, body: &[Card]) -> Result<Seq<CoverLine>, NoMemory>
-    ensures { IfOk result (λ found. found ≡ map cover_of (groups is_cover is_dotted body.now)) }
+    ensures { IfOk result (λ found. found ≡ covers_in body.now) }
 {
     let mut found = Seq::new(alloc);
     let mut at = 0;

@@ -5,7 +5,7 @@ ghost use Rattle.std.specs.List.{list_all, list_any};
 ghost use Rattle.vrt_model.specs.Lists.{has_name};
 ghost use Rattle.blif_reader.specs.Cards.{first_word};
 ghost use Rattle.blif_reader.specs.Models.{model_name};
-ghost use Rattle.blif_reader.specs.Refused.{differs_from, differs_in, fault_by, fits, has_bad_tie, is_as_latch, is_bad_latch, is_bad_row, is_bad_tie, is_input_byte, is_known, is_mixed, is_model_twice, is_other, is_output_word, is_outside, is_row, is_short, passes_limit};
+ghost use Rattle.blif_reader.specs.Refused.{differs_from, differs_in, fault_by, fits, goes_there, has_bad_tie, is_as_latch, is_bad_latch, is_bad_row, is_bad_tie, is_input_byte, is_known, is_known_there, is_mixed, is_model_twice, is_other, is_output_word, is_outside, is_row, is_short, passes_limit};
 ghost use Rattle.text_lines.specs.Faults.{Judges};
 
 use crate::BlifFault;
@@ -33,11 +33,36 @@ fn is_card_known(card: &Card) -> bool
         || is_first(card, b".names".as_slice())
         || is_first(card, b".latch".as_slice())
         || is_first(card, b".subckt".as_slice())
+        || is_first(card, b".exdc".as_slice())
 }
 
-fn is_other_card(card: &Card) -> bool
-    ensures { result ≡ is_other card.now }
+/// Whether a don't-care network has a card of this first word, or ends with it.
+fn is_card_known_there(card: &Card) -> bool
+    ensures { result ≡ is_known_there card.now }
 {
+    is_first(card, b".model".as_slice())
+        || is_first(card, b".end".as_slice())
+        || is_first(card, b".inputs".as_slice())
+        || is_first(card, b".outputs".as_slice())
+        || is_first(card, b".names".as_slice())
+}
+
+/// Whether a card has a place in a don't-care network, behind this cover.
+fn has_place(cover: &Option<OpenCover>, card: &Card) -> bool
+    ensures { result ≡ goes_there cover.now card.now }
+{
+    if has_dot(card) {
+        return is_card_known_there(card);
+    }
+    cover.is_some()
+}
+
+fn is_other_card(known: &Known, card: &Card) -> bool
+    ensures { result ≡ is_other known.now card.now }
+{
+    if known.in_network {
+        return !has_place(&known.cover, card);
+    }
     has_dot(card) && !is_card_known(card)
 }
 
@@ -208,7 +233,7 @@ pub fn judge(alloc: Global, known: &Known, card: &Card) -> Result<(), BlifFault>
     if !card.is_all_text {
         return Err(BlifFault::NotText { line });
     }
-    if is_other_card(card) {
+    if is_other_card(known, card) {
         return Err(unsupported(alloc, line, word(card, 0)));
     }
     if is_asynchronous(card) {

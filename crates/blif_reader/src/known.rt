@@ -2,12 +2,14 @@
 
 use names::Names;
 
-/// The names of all models, whether a model is open, and the cover that goes on.
+/// The names of all models, whether a model is open, whether its don't-care network is, and the cover that goes on.
 pub struct Known {
     /// The names on the `.model` cards so far.
     pub models: Names,
     /// Whether a `.model` card was met and no `.end` behind it.
     pub is_inside: bool,
+    /// Whether a `.exdc` card was met and no end of its model behind it.
+    pub in_network: bool,
     /// The cover to which rows may still come; none behind another card that begins with `.`.
     pub cover: Option<OpenCover>,
 }
@@ -18,6 +20,7 @@ impl Drop for Known {
         let Known {
             models: _models,
             is_inside: _is_inside,
+            in_network: _in_network,
             cover: _cover,
         } = self;
     }

@@ -4,7 +4,7 @@ ghost use Rattle.std.specs.Prelude.{◌≡◌, drop, codes};
 ghost use Rattle.text_lines.specs.Bytes.{starts};
 ghost use Rattle.text_lines.specs.Words.{behind, but_last, last_word, word_at};
 ghost use Rattle.blif_reader.specs.Cards.{first_word, has_first};
-ghost use Rattle.blif_reader.specs.Models.{begins_model, ends_model, is_cover, is_dotted, is_latch, is_sub, model_name};
+ghost use Rattle.blif_reader.specs.Models.{begins_model, ends_model, is_cover, is_dotted, is_exdc, is_latch, is_sub, model_name};
 
 use crate::cards::Card;
 use vrt_model::Text;
@@ -59,6 +59,13 @@ pub fn is_sub_card(card: &Card) -> bool
     ensures { result ≡ is_sub card.now }
 {
     is_first(card, b".subckt".as_slice())
+}
+
+/// Whether the card begins a don't-care network.
+pub fn is_exdc_card(card: &Card) -> bool
+    ensures { result ≡ is_exdc card.now }
+{
+    is_first(card, b".exdc".as_slice())
 }
 
 /// Whether the card begins with `.`, so that it is no row.

@@ -36,6 +36,7 @@ inverter = record {
   holds = [];
   instances = [];
   wholes = [];
+  source = 8;
 }
 
 -- nets gnd, vdd, s, z, q, p: an inverter from q to p, q being what s lets through from z, and a pass device from p to z
@@ -46,6 +47,7 @@ passing = record {
   holds = [];
   instances = [];
   wholes = [];
+  source = 8;
 }
 
 abbrev pub where_at : ℕ → ℕ
@@ -124,6 +126,7 @@ no_pin out (i, e) = none-some out e
 -- the inverter stands in the circuit, with its output exposed at drive 6
 pub inverter_is_placed : IsPlaced inverter passing where_at is_output (λ n. 6)
 inverter_is_placed = record {
+  source = refl;
   no_holds = refl;
   no_wholes = refl;
   channels = channels;
@@ -164,11 +167,12 @@ kept_image : (e : Device) → e ≡ device N 5 2 3 → IsLeftDevice (λ k. k) al
 kept_image e is = subst (λ (x : Device). IsLeftDevice (λ k. k) all all x (device N 5 2 3)) (sym is)
     (record { image = record { kind = refl; gate = refl; left = refl; right = refl; level = refl; keeper = refl }; gate = refl; channels = λ k touch. refl })
 
-fresh_pin : (m : FlatModel) → IsFreshPin inverter where_at (λ k. k) all is_output (λ n. 6) 3 (record { whole = whole m; pin = pin })
+fresh_pin : (m : FlatModel) → IsFreshPin 8 inverter where_at (λ k. k) all is_output (λ n. 6) 3 (record { whole = whole m; pin = pin })
 fresh_pin m = record { plain = y_plain 3 refl; net = refl; stays = refl; level = λ exposed. refl }
 
 pub inverter_is_left_whole : (m : FlatModel) → IsLeftWhole inverter passing (rest m) where_at (λ k. k) (λ i. i) (λ n. 0) all all is_output (λ n. 6)
 inverter_is_left_whole m = record {
+  source = refl;
   nets = λ k x stays e. (x, e, refl);
   nets_back = λ k x stays e. (x, e, refl);
   moved_apart = λ k l a b e. e;
@@ -195,7 +199,7 @@ inverter_is_left_whole m = record {
         (device N 5 2 3, (2, refl), subst (IsLeftDevice (λ k. k) all all (device N 5 2 3)) (same_Some (device N 5 2 3) f is) (kept_image (device N 5 2 3) refl))
     devices_back f (suc i, is) = absurd (none-some f is)
 
-    fresh_pins : (n : ℕ) → is_output n ≡ true → (out : OutputPin) × At (output_pins (rest m)) 0 out × IsFreshPin inverter where_at (λ k. k) all is_output (λ n. 6) n out
+    fresh_pins : (n : ℕ) → is_output n ≡ true → (out : OutputPin) × At (output_pins (rest m)) 0 out × IsFreshPin 8 inverter where_at (λ k. k) all is_output (λ n. 6) n out
     fresh_pins zero h = absurd (false≢true h)
     fresh_pins (suc zero) h = absurd (false≢true h)
     fresh_pins (suc (suc zero)) h = absurd (false≢true h)
@@ -204,6 +208,6 @@ inverter_is_left_whole m = record {
 
     pins_back : (j : ℕ) (out : OutputPin) → At (output_pins (rest m)) j out
         → ((i : ℕ) × (old : OutputPin) × At (output_pins passing) i old × (i ≡ j) × IsLeftPin (λ k. k) all old out)
-        ⊎ ((n : ℕ) × (◌≡◌ {A = ℕ} 0 j) × IsFreshPin inverter where_at (λ k. k) all is_output (λ n. 6) n out)
-    pins_back zero out e = inr (3, refl, subst (IsFreshPin inverter where_at (λ k. k) all is_output (λ n. 6) 3) (same_Some (let one : OutputPin = record { whole = whole m; pin = pin } in one) out e) (fresh_pin m))
+        ⊎ ((n : ℕ) × (◌≡◌ {A = ℕ} 0 j) × IsFreshPin 8 inverter where_at (λ k. k) all is_output (λ n. 6) n out)
+    pins_back zero out e = inr (3, refl, subst (IsFreshPin 8 inverter where_at (λ k. k) all is_output (λ n. 6) 3) (same_Some (let one : OutputPin = record { whole = whole m; pin = pin } in one) out e) (fresh_pin m))
     pins_back (suc j) out e = absurd (none-some out e)

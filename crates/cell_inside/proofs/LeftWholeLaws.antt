@@ -11,6 +11,7 @@ use Rattle.cell_inside.specs.Placed.{IsImage, IsPlaced, alone}
 use Rattle.cell_inside.specs.Replaced.{IsReplaced, drive_root, root_at}
 use Rattle.vrt_model.proofs.Filtered.{among_devices, device_among}
 use Rattle.vrt_model.proofs.Networks.{network_finite, network_levels}
+use Rattle.vrt_model.specs.Levels.{source_level}
 use Rattle.vrt_model.specs.Known.{is_plain_at}
 use Rattle.vrt_model.specs.Lists.{Among, At}
 use Rattle.vrt_model.specs.Path.{IsOn, IsRoot, Network, Root, level_of_drive}
@@ -58,7 +59,7 @@ module _ (cell c whole_circuit : Circuit) (at moved place fresh : ℕ → ℕ) (
 
   pub left_replaced : IsReplaced cell_network circuit_network whole_network at moved (is_plain_at cell) exposed compared drive value
   left_replaced = record {
-    source = refl;
+    source = l.source;
     exposed_compared = l.exposed_compared;
     inside_compared = λ n ins. l.inside_compared n (plain_is cell n ins);
     moved_apart = λ k m ks ms. l.moved_apart k m (l.compared_remaining k ks) (l.compared_remaining m ms);
@@ -82,7 +83,7 @@ module _ (cell c whole_circuit : Circuit) (at moved place fresh : ℕ → ℕ) (
           elim is [
             | inl g ↦
                 let other = l.nets root.net g.0 (l.compared_remaining root.net shows) g.1 in
-                inl (other.0, other.1, ap is_given other.2 ∙ g.2, g.3, g.4 ∙ sym (same.reading root.net (l.compared_remaining root.net shows)))
+                inl (other.0, other.1, ap is_given other.2 ∙ g.2, g.3 ∙ l.source, g.4 ∙ sym (same.reading root.net (l.compared_remaining root.net shows)))
             | inr more ↦ elim more [
               | inl h ↦
                   let g = l.holds h.0 h.1 h.2 in
@@ -95,7 +96,7 @@ module _ (cell c whole_circuit : Circuit) (at moved place fresh : ℕ → ℕ) (
                     pin.0.pin,
                     pin_there whole_circuit (place o.0) pin.0 pin.1,
                     ap moved o.3 ∙ ap (λ (q : WholePin). moved q.net.0) (sym out.2) ∙ sym pin.2.net,
-                    o.4 ∙ ap (λ (q : WholePin). level_of_drive 8 q.drive) (sym out.2) ∙ ap (level_of_drive 8) (sym pin.2.drive),
+                    o.4 ∙ ap (λ (q : WholePin). level_of_drive (source_level c) q.drive) (sym out.2) ∙ ap (level_of_drive (source_level c)) (sym pin.2.drive) ∙ ap (λ (x : ℕ). level_of_drive x pin.0.pin.drive) l.source,
                     o.5 ∙ sym (same.driven o.0 out.0 out.1),
                   ))
             ]
@@ -112,7 +113,7 @@ module _ (cell c whole_circuit : Circuit) (at moved place fresh : ℕ → ℕ) (
           elim is [
             | inl g ↦
                 let net = l.nets_back k g.0 (l.compared_remaining k shows) (subst (λ (m : ℕ). At whole_circuit.nets m g.0) e g.1) in
-                inl (inl (net.0, net.1, ap is_given net.2 ∙ g.2, g.3, g.4 ∙ ap r.reading e ∙ same.reading k (l.compared_remaining k shows)))
+                inl (inl (net.0, net.1, ap is_given net.2 ∙ g.2, g.3 ∙ sym l.source, g.4 ∙ ap r.reading e ∙ same.reading k (l.compared_remaining k shows)))
             | inr more ↦ elim more [
               | inl h ↦
                   let g = l.holds_back h.0 h.1 h.2 in
@@ -120,11 +121,11 @@ module _ (cell c whole_circuit : Circuit) (at moved place fresh : ℕ → ℕ) (
                   inl (inr (inl (h.0, g.0, g.1, sym net, h.4 ∙ g.2.size, h.5)))
               | inr o ↦
                   let out = pin_found whole_circuit o.0 o.1 o.2 in
-                  by_pin o.0 out.0 out.1 (ap (λ (q : WholePin). q.net.0) out.2 ∙ sym o.3 ∙ e) (o.4 ∙ ap (λ (q : WholePin). level_of_drive 8 q.drive) (sym out.2)) o.5
+                  by_pin o.0 out.0 out.1 (ap (λ (q : WholePin). q.net.0) out.2 ∙ sym o.3 ∙ e) (o.4 ∙ ap (λ (q : WholePin). level_of_drive (source_level whole_circuit) q.drive) (sym out.2)) o.5
             ]
           ]
         where
-          by_pin : (j : ℕ) (pin : OutputPin) → At (output_pins whole_circuit) j pin → pin.pin.net.0 ≡ moved k → root.level ≡ level_of_drive 8 pin.pin.drive → root.value ≡ r.driven j
+          by_pin : (j : ℕ) (pin : OutputPin) → At (output_pins whole_circuit) j pin → pin.pin.net.0 ≡ moved k → root.level ≡ level_of_drive (source_level whole_circuit) pin.pin.drive → root.value ≡ r.driven j
               → IsRoot circuit_network (root_at k root) ⊎ ((n : ℕ) × (exposed n ≡ true) × (at n ≡ k) × (root.level ≡ drive n) × (root.value ≡ value n))
           by_pin j pin there net level bit =
               elim (l.pins_back j pin there) [
@@ -136,7 +137,7 @@ module _ (cell c whole_circuit : Circuit) (at moved place fresh : ℕ → ℕ) (
                       out.pin,
                       pin_there c old.0 out old.2,
                       sym net_is,
-                      level ∙ ap (level_of_drive 8) old.4.drive,
+                      level ∙ ap (level_of_drive (source_level whole_circuit)) old.4.drive ∙ ap (λ (x : ℕ). level_of_drive x out.pin.drive) (sym l.source),
                       bit ∙ ap r.driven (sym old.3) ∙ same.driven old.0 out old.2,
                     )))
                 | inr new ↦

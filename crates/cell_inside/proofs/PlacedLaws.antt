@@ -11,6 +11,8 @@ use Rattle.cell_inside.specs.Placed.{CellAtGatesStandsAlone, IsImage, IsPlaced, 
 use Rattle.vrt_model.proofs.Filtered.{among_devices, device_among}
 use Rattle.vrt_model.proofs.Members.{all_among, among_map, at_none}
 use Rattle.vrt_model.proofs.Networks.{network_finite, network_levels}
+use Rattle.vrt_model.proofs.Scales.{least_below}
+use Rattle.vrt_model.specs.Levels.{source_level}
 use Rattle.vrt_model.specs.Circuits.{IsHold}
 use Rattle.vrt_model.specs.Known.{IsPlain, is_plain_at}
 use Rattle.vrt_model.specs.Lists.{Among, At}
@@ -73,7 +75,7 @@ module _ (cell c : Circuit) (at : ℕ → ℕ) (exposed : ℕ → Bool) (drive :
           | inr o ↦
               let out = pin_of o.0 o.1 o.2 in
               let h = p.pins out.0 n out.1 plain (ap (λ (q : WholePin). q.net.0) out.2 ∙ sym o.3 ∙ e) in
-              let level : root.level ≡ level_of_drive 8 out.0.pin.drive = o.4 ∙ ap (λ (q : WholePin). level_of_drive 8 q.drive) (sym out.2) in
+              let level : root.level ≡ level_of_drive (source_level c) out.0.pin.drive = o.4 ∙ ap (λ (q : WholePin). level_of_drive (source_level c) q.drive) (sym out.2) in
               let le = h.1 in
               (h.0, omega (arith, level, le))
         ]
@@ -86,7 +88,7 @@ module _ (cell c : Circuit) (at : ℕ → ℕ) (exposed : ℕ → Bool) (drive :
       record {
         value = s.reading (at n);
         alone = record {
-          root = record { net = n; level = 8; value = s.reading (at n) };
+          root = record { net = n; level = source_level cell; value = s.reading (at n) };
           is = inl (here.0, here.1, supply_given cell n value here, refl, refl);
           net = refl;
           level = refl;
@@ -97,7 +99,7 @@ module _ (cell c : Circuit) (at : ℕ → ℕ) (exposed : ℕ → Bool) (drive :
           ];
         };
         above = record {
-          root = record { net = at n; level = 8; value = s.reading (at n) };
+          root = record { net = at n; level = source_level c; value = s.reading (at n) };
           is = inl (there.0, there.1, supply_given c (at n) value there, refl, refl);
           net = refl;
           level = refl;
@@ -105,7 +107,7 @@ module _ (cell c : Circuit) (at : ℕ → ℕ) (exposed : ℕ → Bool) (drive :
           only = λ other r e full. elim r [
             | inl g ↦ g.4 ∙ ap s.reading e
             | inr rest ↦ elim rest [
-              | inl h ↦ absurd (let is = h.4 in let le = (all_among (IsHold c) c.holds h.1 all_ranges.holds (h.0, h.2)).size.1 in omega (arith, is, le, full))
+              | inl h ↦ absurd (let is = h.4 in let le = (all_among (IsHold c) c.holds h.1 all_ranges.holds (h.0, h.2)).size.1 in let below = least_below c in omega (arith, is, le, full, below))
               | inr o ↦
                   let out = pin_of o.0 o.1 o.2 in
                   absurd (plain_not_given c (at n) there.0 (subst (IsPlain c) (ap (λ (q : WholePin). q.net.0) out.2 ∙ sym o.3 ∙ e) (p.pins_plain out.0 out.1)) there.1 (supply_given c (at n) value there))
@@ -116,7 +118,7 @@ module _ (cell c : Circuit) (at : ℕ → ℕ) (exposed : ℕ → Bool) (drive :
 
   pub placed_inside : IsInside cell_network circuit_network at (is_plain_at cell) exposed drive
   placed_inside = record {
-    source = refl;
+    source = p.source;
     no_root = λ root r ins. elim r [
       | inl g ↦ plain_not_given cell root.net g.0 (plain_is cell root.net ins) g.1 g.2
       | inr other ↦ elim other [ inl h ↦ no_hold h.0 h.1 h.2 | inr o ↦ no_pin o.0 o.1 o.2 ]

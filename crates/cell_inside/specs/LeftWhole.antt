@@ -3,6 +3,7 @@ use Rattle.std.specs.Prelude.{◌≡◌, ℕ, ◌<◌, ◌⊎◌, Bool, true}
 use Rattle.cell_inside.specs.Inside.{HasSameReaches, HasSameStrengths, Touches}
 use Rattle.cell_inside.specs.Placed.{IsImage, IsPlaced, alone}
 use Rattle.cell_inside.specs.Replaced.{AreUnjoined, FightsBeside}
+use Rattle.vrt_model.specs.Levels.{source_level}
 use Rattle.vrt_model.specs.Known.{IsPlain, is_plain_at}
 use Rattle.vrt_model.specs.Lists.{Among, At}
 use Rattle.vrt_model.specs.Networks.{HasRanges}
@@ -37,16 +38,18 @@ pub record IsLeftPin (moved : ℕ → ℕ) (remaining : ℕ → Bool) (out pin :
   pub stays : remaining out.pin.net.0 ≡ true
 
 -- an output pin of the cell itself, now whole, at a plain net of the cell; where that is exposed, the pin has its drive
-pub record IsFreshPin (cell : Circuit) (at moved : ℕ → ℕ) (remaining exposed : ℕ → Bool) (drive : ℕ → ℕ) (n : ℕ) (pin : OutputPin) : Type 0 where
+pub record IsFreshPin (source : ℕ) (cell : Circuit) (at moved : ℕ → ℕ) (remaining exposed : ℕ → Bool) (drive : ℕ → ℕ) (n : ℕ) (pin : OutputPin) : Type 0 where
   pub plain : IsPlain cell n
   pub net : pin.pin.net.0 ≡ moved (at n)
   pub stays : remaining (at n) ≡ true
-  pub level : exposed n ≡ true → level_of_drive 8 pin.pin.drive ≡ drive n
+  pub level : exposed n ≡ true → level_of_drive source pin.pin.drive ≡ drive n
 
 -- `whole_circuit` is the circuit c with the cell whole: which nets of c remain, the number `moved` of each there, and which of
 -- them are compared (all but outputs of the cell that meet gates alone); the place of each output pin of c among the pins
 -- there, and the place `fresh` of the pin of each exposed net of the cell
 pub record IsLeftWhole (cell c whole_circuit : Circuit) (at moved place fresh : ℕ → ℕ) (remaining compared exposed : ℕ → Bool) (drive : ℕ → ℕ) : Type 0 where
+  -- both have one source level
+  pub source : source_level c ≡ source_level whole_circuit
   -- the nets that remain, with their kinds
   pub nets :
       (k : ℕ) (net : FlatNet) → remaining k ≡ true → At c.nets k net
@@ -73,11 +76,11 @@ pub record IsLeftWhole (cell c whole_circuit : Circuit) (at moved place fresh : 
       → (pin : OutputPin) × At (output_pins whole_circuit) (place i) pin × IsLeftPin moved remaining out pin
   pub fresh_pins :
       (n : ℕ) → exposed n ≡ true
-      → (pin : OutputPin) × At (output_pins whole_circuit) (fresh n) pin × IsFreshPin cell at moved remaining exposed drive n pin
+      → (pin : OutputPin) × At (output_pins whole_circuit) (fresh n) pin × IsFreshPin (source_level whole_circuit) cell at moved remaining exposed drive n pin
   pub pins_back :
       (j : ℕ) (pin : OutputPin) → At (output_pins whole_circuit) j pin
       → ((i : ℕ) × (out : OutputPin) × At (output_pins c) i out × (place i ≡ j) × IsLeftPin moved remaining out pin)
-      ⊎ ((n : ℕ) × (fresh n ≡ j) × IsFreshPin cell at moved remaining exposed drive n pin)
+      ⊎ ((n : ℕ) × (fresh n ≡ j) × IsFreshPin (source_level whole_circuit) cell at moved remaining exposed drive n pin)
 
 -- ---- states
 

@@ -2,6 +2,7 @@
 -- and the output pins of whole instances are at its exposed nets alone, and not above the drives of these.
 use Rattle.std.specs.Prelude.{◌≡◌, ℕ, ◌<◌, ◌≤◌, ◌⊎◌, Bool, true, false, []}
 use Rattle.cell_inside.specs.Inside.{HasFight, HasSameReaches, HasSameStrengths, KeepsReaches, Touches}
+use Rattle.vrt_model.specs.Levels.{source_level}
 use Rattle.vrt_model.specs.Known.{IsHeld, IsPlain, is_plain_at}
 use Rattle.vrt_model.specs.Lists.{Among, At}
 use Rattle.vrt_model.specs.Networks.{HasRanges}
@@ -30,6 +31,8 @@ pub record IsImage (at : ℕ → ℕ) (d e : Device) : Type 0 where
 
 -- the cell stands in the circuit c, its net n at `at n`; its exposed nets meet more than gates outside, and each has a drive
 pub record IsPlaced (cell c : Circuit) (at : ℕ → ℕ) (exposed : ℕ → Bool) (drive : ℕ → ℕ) : Type 0 where
+  -- both have one source level
+  pub source : source_level cell ≡ source_level c
   -- the cell has no hold and no whole instance
   pub no_holds : cell.holds ≡ []
   pub no_wholes : cell.wholes ≡ []
@@ -47,7 +50,7 @@ pub record IsPlaced (cell c : Circuit) (at : ℕ → ℕ) (exposed : ℕ → Boo
   pub unheld : (n : ℕ) → IsPlain cell n → ¬ (IsHeld c (at n))
   pub pins :
       (out : OutputPin) (n : ℕ) → Among (output_pins c) out → IsPlain cell n → out.pin.net.0 ≡ at n
-      → (exposed n ≡ true) × (level_of_drive 8 out.pin.drive ≤ drive n)
+      → (exposed n ≡ true) × (level_of_drive (source_level c) out.pin.drive ≤ drive n)
   pub pins_plain : (out : OutputPin) → Among (output_pins c) out → IsPlain c out.pin.net.0
   -- two plain nets are one in the circuit only where both are exposed, with the same drive
   pub apart : (m n : ℕ) → IsPlain cell m → IsPlain cell n → at m ≡ at n → (m ≡ n) ⊎ ((exposed m ≡ true) × (exposed n ≡ true) × (drive m ≡ drive n))

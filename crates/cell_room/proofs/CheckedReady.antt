@@ -52,6 +52,7 @@ module _ (k : Comparison) (c : Circuit) (ready : IsReady k) (shares : SharesCirc
     circuit = circuit;
     wholes = wholes;
     model = ready.model;
+    dontcares = ready.dontcares;
     roles = ready.roles;
     ports = subst (λ (nets : List FlatNet). All (λ (net : ℕ). net < length nets) (port_nets k.rules (cell_at k.design k.cell).ports)) (sym shares.nets) ready.ports;
     outputs = ready.outputs;

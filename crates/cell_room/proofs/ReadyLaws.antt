@@ -1,9 +1,11 @@
 -- What is flattened of a cell is looked through phase by phase, and the law of runs speaks of it.
-use Rattle.std.proofs.Common.{◌≡◌, ℕ, suc, ◌<◌, List, [], ◌∷◌, drop, length, Some, None, ap, subst, ◌∙◌}
+use Rattle.std.proofs.Common.{◌≡◌, ℕ, suc, ◌<◌, List, [], ◌∷◌, drop, length, Some, None, ap, subst, sym, ◌∙◌}
 use Rattle.std.specs.Prelude.{All, bytes_eq}
 use Rattle.std.proofs.lemmas.List.Quantifiers.{position-Some}
 use Rattle.std.proofs.lemmas.List.{length-map}
 use Rattle.std.proofs.lemmas.Option.{none-some}
+use Rattle.blif_flat.proofs.NetworkBits.{one_bit_each}
+use Rattle.blif_flat.specs.Network.{HasOneBitEach}
 use Rattle.cell_room.proofs.InstanceLaws.{all_sound}
 use Rattle.cell_room.proofs.PairedInputs.{circuit_nets, output_below, paired_inputs}
 use Rattle.cell_room.specs.Compared.{AreInputs, IsFlattened, comparison}
@@ -92,6 +94,7 @@ module _ (design : Design) (blif : Blif) (rules : Rules) (cell m : ℕ) (f : Fla
         let observed = is_observed (comparison design rules cell f) phase in
         flat_wholes f.circuit at observed is.flat;
     model = is.model;
+    dontcares = subst HasOneBitEach (sym is.model_is) (one_bit_each blif m);
     roles = is.roles;
     ports = ports_below top f.circuit (circuit_nets design cell f rules is.circuit_is);
     outputs = output_below design rules cell m f is.ports is.outputs is.pairing_is is.circuit_is is.model;

@@ -15,14 +15,13 @@ use Rattle.phase_terms.specs.Stores.{counts_of, most_model_words}
 use Rattle.phase_terms.specs.declared.words.WordCounts.{WordCounts}
 use Rattle.vrt_model.proofs.Lists.{at_there, one_at}
 use Rattle.vrt_model.proofs.Members.{all_among, all_by}
+use Rattle.vrt_model.proofs.ElementCounts.{names_count}
 use Rattle.vrt_model.specs.Circuits.{IsCircuit, IsWhole}
 use Rattle.vrt_model.specs.Comparison.{Comparison}
 use Rattle.vrt_model.specs.Elements.{element_count, element_names, names_by_kind, signal_name}
 use Rattle.vrt_model.specs.Held.{sources_of}
 use Rattle.vrt_model.specs.Lists.{At}
 use Rattle.vrt_model.specs.Variables.{is_free, is_input, places, variables_of}
-use Rattle.vrt_model.specs.declared.blif.LatchKind.{LatchKind}
-use Rattle.vrt_model.specs.declared.blif.LatchKind.TheVariants.{Re, Fe, Ah, Al}
 use Rattle.vrt_model.specs.declared.circuit.Circuit.{Circuit}
 use Rattle.vrt_model.specs.declared.circuit.FlatNet.{FlatNet}
 use Rattle.vrt_model.specs.declared.flat_model.FlatLatch.{FlatLatch}
@@ -37,12 +36,6 @@ use Rattle.cell_room.specs.Made.{AreWords, most_outputs}
 use Rattle.path_fixpoint.specs.Parts.{pins_of}
 
 -- ---- elements
-
-names_count : (kind : LatchKind) (name : List ℕ) → length (names_by_kind kind name) ≡ element_count kind
-names_count Re name = refl
-names_count Fe name = refl
-names_count Ah name = refl
-names_count Al name = refl
 
 -- one element for each name
 pub elements_are : (flat : FlatModel) (ls : List FlatLatch) → elements_in ls ≡ length (flat_map (λ (l : FlatLatch). names_by_kind l.kind (signal_name flat l.output)) ls)

@@ -11,7 +11,6 @@ ghost use Rattle.vrt_model.specs.Elements.{element_count, element_names};
 ghost use Rattle.vrt_model.specs.FlatModels.{IsFlatModel};
 ghost use Rattle.vrt_model.specs.declared.groups.Vars.{Vars as VarsValue};
 
-use path_fixpoint::source_level;
 use phase_open::most_model_words;
 use phase_terms::{Comparison, WordCounts};
 use vrt_model::{Circuit, FlatLatch, FlatModel, LatchKind, NoMemory, Vars};
@@ -112,7 +111,7 @@ pub(crate) fn counts_with(
     let elements = model_elements(compared.model)?;
     Ok(WordCounts {
         nets: compared.circuit.nets.len() as u32,
-        source: source_level(compared.circuit),
+        source: compared.circuit.source_level(),
         pins,
         models: most_model_words(compared.circuit.wholes.as_slice()),
         signals: compared.model.signals.len() as u32,

@@ -23,7 +23,7 @@ use Rattle.vrt_model.specs.declared.rules.Rules.{Rules}
 pub model_is : (blif : Blif) (number : ℕ) (b : BlifModel) → Some b ≡ slice_get blif.models number → b ≡ model_at blif number
 model_is blif number b found =
     let none : BlifModel =
-    record { line = 0; name = []; inputs = []; input_lines = []; clocks = []; clock_lines = []; outputs = []; output_lines = []; covers = []; latches = []; subs = [] } in
+    record { line = 0; name = []; inputs = []; input_lines = []; clocks = []; clock_lines = []; outputs = []; output_lines = []; covers = []; latches = []; subs = []; exdc = [] } in
     ap (λ (o : Option BlifModel). unwrap_or o none) found
 
 -- a supported cell pairs with one model

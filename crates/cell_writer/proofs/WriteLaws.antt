@@ -27,7 +27,7 @@ use Rattle.vrt_model.specs.Comparison.{Comparison, cell_at, port_nets, tied_inpu
 use Rattle.vrt_model.specs.Elements.{element_names, signal_name}
 use Rattle.vrt_model.specs.Held.{sources_of}
 use Rattle.vrt_model.specs.Levels.{source_level}
-use Rattle.vrt_model.specs.FlatBlif.{flat_model_of, model_at, signal_at, top_model}
+use Rattle.vrt_model.specs.FlatBlif.{flat_model_of, model_at, signal_at, top_model, unrolled_of}
 use Rattle.vrt_model.specs.Lists.{At, has_name}
 use Rattle.vrt_model.specs.declared.blif.Blif.{Blif}
 use Rattle.vrt_model.specs.declared.circuit.Circuit.{Circuit}
@@ -42,7 +42,7 @@ use Rattle.written_models.specs.Written.{Logic}
 
 -- a flat model has an output for each of the model's
 outputs_count : (blif : Blif) (m : ℕ) → length (flat_model_of blif m).outputs ≡ length (model_at blif m).outputs
-unfolding flat_model_of
+unfolding flat_model_of unrolled_of
 outputs_count blif m = length-map (model_at blif m).outputs (signal_at blif (top_model m))
 
 -- what is said of the text is said of the cell

@@ -5,7 +5,6 @@ ghost use Rattle.vrt_model.specs.Circuits.{IsCircuit};
 ghost use Rattle.vrt_model.specs.FlatModels.{IsFlatModel};
 ghost use Rattle.vrt_model.specs.Levels.{source_level};
 
-use path_fixpoint::source_level;
 use phase_terms::WordCounts;
 use vrt_model::{Circuit, FlatModel, Vars};
 
@@ -18,7 +17,7 @@ pub(crate) fn bare_counts(circuit: &Circuit, model: &FlatModel, vars: &Vars) -> 
 {
     WordCounts {
         nets: circuit.nets.len() as u32,
-        source: source_level(circuit),
+        source: circuit.source_level(),
         pins: 0,
         models: 0,
         signals: model.signals.len() as u32,

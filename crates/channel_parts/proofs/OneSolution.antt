@@ -19,10 +19,12 @@ use Rattle.vrt_model.proofs.GivenNets.{clear_from_source, source_strength}
 use Rattle.vrt_model.proofs.Members.{all_among, at_none}
 use Rattle.vrt_model.proofs.Networks.{given_source, network_finite, network_levels}
 use Rattle.vrt_model.proofs.Ranked.{plain_not_given}
+use Rattle.vrt_model.proofs.Scales.{least_below}
 use Rattle.vrt_model.proofs.SameNetwork.{IsPartOf, response_same}
 use Rattle.vrt_model.specs.Circuits.{IsDevice, IsHold}
 use Rattle.vrt_model.specs.Constraints.{given_bit}
 use Rattle.vrt_model.specs.Known.{HasFixedBit, HasGateArc, IsChannel, IsKnown, IsPlain, IsRanking, IsTogether, fixed, itself, onward, settled}
+use Rattle.vrt_model.specs.Levels.{source_level}
 use Rattle.vrt_model.specs.Lists.{At, Among}
 use Rattle.vrt_model.specs.Path.{Hop, IsOn, IsOutputRoot, IsPath, IsRoot, Joins, Network, Root, end_of}
 use Rattle.vrt_model.specs.Reading.{HasGivenBit, IsReading, conducts_at, devices_of, is_given}
@@ -129,16 +131,16 @@ module _ (c : Circuit) (phase : Phase) (setting : Setting) (ranges : HasRanges c
       shows_from (view r) n (r n) here only
     where
       here : Reaches (view r) n (r n)
-      here = (record { net = n; level = 8; value = r n }, [], inl (g.0, g.1, g.2, refl, refl), source_strength (view r) (levels r) n (source r n g), refl, refl)
+      here = (record { net = n; level = source_level c; value = r n }, [], inl (g.0, g.1, g.2, refl, refl), source_strength (view r) (levels r) n (source r n g), refl, refl)
 
       -- the root of a path of the source level is the net itself
       own_value : (root : Root) → IsRoot (view r) root → root.net ≡ n → IsStrength (view r) root.net root.level → root.value ≡ r n
       own_value root is e strong =
-          let top : 8 ≤ root.level = strong.0 (record { net = n; level = 8; value = r n }) [] (inl (g.0, g.1, g.2, refl, refl)) (sym e) in
+          let top : source_level c ≤ root.level = strong.0 (record { net = n; level = source_level c; value = r n }) [] (inl (g.0, g.1, g.2, refl, refl)) (sym e) in
           elim is [
             | inl h ↦ h.4 ∙ ap r e
             | inr other ↦ elim other [
-              | inl h ↦ absurd (let same = h.4 in let le = (all_among (IsHold c) c.holds h.1 ranges.holds (h.0, h.2)).size.1 in omega (arith, top, same, le))
+              | inl h ↦ absurd (let same = h.4 in let le = (all_among (IsHold c) c.holds h.1 ranges.holds (h.0, h.2)).size.1 in let below = least_below c in omega (arith, top, same, le, below))
               | inr o ↦ absurd (no_pin r n o.0 o.1 g o.2 (sym o.3 ∙ e))
             ]
           ]
@@ -300,11 +302,11 @@ module _ (c : Circuit) (phase : Phase) (setting : Setting) (ranges : HasRanges c
 
   -- whether a net shows a bit can be tested
   reaches_at : (ℕ → Bool) → Bool → ℕ → Bool
-  reaches_at r v n = reaches_test (seen_at r) (length c.nets) 8 (network_finite c true setting.held (state_of c phase setting ranges observed rank driven drives r) ranges) v n
+  reaches_at r v n = reaches_test (seen_at r) (length c.nets) (source_level c) (network_finite c true setting.held (state_of c phase setting ranges observed rank driven drives r) ranges) v n
 
   reaches_at_is : (r : ℕ → Bool) (v : Bool) (n : ℕ) → (reaches_at r v n ≡ true) ↔ Reaches (seen_at r) n v
   unfolding reaches_at
-  reaches_at_is r v n = reaches_test_ok (seen_at r) (length c.nets) 8 (network_finite c true setting.held (state_of c phase setting ranges observed rank driven drives r) ranges) v n
+  reaches_at_is r v n = reaches_test_ok (seen_at r) (length c.nets) (source_level c) (network_finite c true setting.held (state_of c phase setting ranges observed rank driven drives r) ranges) v n
 
   shows_test : (ℕ → Bool) → ℕ → Bool → Bool
   shows_test r n v = reaches_at r v n && not (reaches_at r (not v) n)

@@ -49,6 +49,7 @@ channel_circuit c = record {
   holds = [];
   instances = [];
   wholes = [];
+  source = c.source;
 }
 
 -- ---- its parts

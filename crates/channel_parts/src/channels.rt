@@ -81,6 +81,7 @@ fn channel_circuit(alloc: Global, circuit: &Circuit) -> Result<Circuit, NoMemory
         holds: Seq::new(alloc),
         instances: Seq::new(alloc),
         wholes: Seq::new(alloc),
+        source: circuit.source,
     })
 }
 

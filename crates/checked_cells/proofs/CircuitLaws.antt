@@ -1,5 +1,5 @@
 -- A checked circuit has the nets, as many holds and the groups of the flat one, some of its instances, and is well formed.
-use Rattle.std.proofs.Common.{◌≡◌, ℕ, suc, ◌<◌, ◌≤◌, not, cond, Bool, true, false, List, [], ◌∷◌, drop, length, ap, sym, subst, ◌∙◌, arith}
+use Rattle.std.proofs.Common.{◌≡◌, ℕ, suc, ◌<◌, ◌≤◌, not, cond, Bool, true, false, List, [], ◌∷◌, drop, length, ap, sym, subst, ◌∙◌, arith, ◌⊎◌}
 use Rattle.std.specs.Prelude.{All, filter}
 use Rattle.std.proofs.lemmas.List.{length-map}
 use Rattle.checked_cells.proofs.WholeLaws.{ranges}
@@ -7,6 +7,7 @@ use Rattle.checked_cells.specs.Circuits.{CheckedCircuitsAreFormed, CheckedCircui
 use Rattle.checked_chain.proofs.GroupLaws.{groups_are_same}
 use Rattle.checked_chain.specs.Holds.{IsOfChain}
 use Rattle.substitution_laws.proofs.BudgetLaws.{fewer_devices}
+use Rattle.substitution_laws.proofs.DriveRanges.{flat_source}
 use Rattle.substitution_laws.proofs.EndsLaws.{chosen_ends_are_shown}
 use Rattle.substitution_laws.specs.Agreement.{IsCheckedByFacts}
 use Rattle.vrt_model.proofs.Filtered.{filter_among}
@@ -120,6 +121,7 @@ module _ {all_soft : Bool} (k : Comparison) (cut : Cut) (blif : Blif) (facts : L
             (all_among (IsNet (flat_circuit_of t)) i.ports net (all_among (λ (x : FlatInstance). All (IsNet (flat_circuit_of t)) x.ports) (flat_circuit_of t).instances i h.formed.instances (instance_flat i on)) there)));
         wholes = good.wholes;
         one_hold = one_hold_each;
+        source = subst (λ (level : ℕ). (level ≡ 8) ⊎ (level ≡ 15)) (flat_source t ∙ sym h.circuit.source) h.formed.source;
       }
 
 pub checked_circuits_share : {all_soft : Bool} → CheckedCircuitsShare all_soft

@@ -53,6 +53,7 @@ without_links cut blif facts = record {
   instances = refl;
   wholes =
       subst (λ (ps : List NumberedPlace). AllZip (IsWholeAt (before cut 0) blif facts) ps (filter_map (whole_at (before cut 0) blif facts) ps)) (sym (no_place cut)) tt;
+  source = refl;
 }
 
 flat_arc : (cut : Cut) (blif : Blif) (facts : List CellFacts) (phase n m : ℕ) → HasArcWith (before cut 0) blif facts phase n m

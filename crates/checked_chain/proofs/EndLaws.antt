@@ -40,6 +40,7 @@ places_alone_count t one other blif facts c same h = record {
   wholes =
       zip_map (IsWholeAt left blif facts) (IsWholeAt right blif facts) whole_same (whole_places right) c.wholes
       (subst (λ (places : List NumberedPlace). AllZip (IsWholeAt left blif facts) places c.wholes) (whole_places_same t one other same) h.wholes);
+  source = h.source;
 }
   where
     left : Cut
@@ -96,7 +97,8 @@ flat_alone cut blif facts c h =
     let holds = h.holds ∙ sym flat.holds in
     let instances = h.instances ∙ sym flat.instances in
     let wholes = zip_none (IsWholeAt (before cut 0) blif facts) (whole_places (before cut 0)) c.wholes flat.wholes h.wholes in
-    λ i. record { nets = nets i; devices = devices i; holds = holds i; instances = instances i; wholes = wholes i }
+    let source = h.source ∙ sym flat.source in
+    λ i. record { nets = nets i; devices = devices i; holds = holds i; instances = instances i; wholes = wholes i; source = source i }
 
 pub chain_begins_flat : ChainBeginsFlat
 chain_begins_flat cut blif facts c = (

@@ -123,4 +123,5 @@ without_is cut blif facts c h =
     let holds = h.holds in
     let instances = h.instances in
     let wholes = wholes_made cut blif facts (whole_places cut) c.wholes h.wholes in
-    λ i. record { nets = nets i; devices = devices i; holds = holds i; instances = instances i; wholes = wholes i }
+    let source = h.source in
+    λ i. record { nets = nets i; devices = devices i; holds = holds i; instances = instances i; wholes = wholes i; source = source i }

@@ -11,6 +11,7 @@ use Rattle.vrt_model.specs.Checked.{before}
 use Rattle.vrt_model.specs.CheckedParts.{checked_devices, checked_holds, checked_instances}
 use Rattle.vrt_model.specs.Cut.{Cut, NumberedPlace, is_whole, numbered_places, whole_places}
 use Rattle.vrt_model.specs.FlatCircuit.{flat_nets}
+use Rattle.vrt_model.specs.Levels.{source_of}
 use Rattle.vrt_model.specs.Lists.{Among}
 use Rattle.vrt_model.specs.WholeInstances.{IsWholeAt}
 use Rattle.vrt_model.specs.declared.whole.Whole.{Whole}
@@ -51,6 +52,7 @@ chain_is_there cut blif facts c i h =
         holds = checked_holds (before cut i);
         instances = checked_instances (before cut i);
         wholes = wholes.0;
+        source = source_of cut.top.rules;
       },
-      record { nets = refl; devices = refl; holds = refl; instances = refl; wholes = wholes.1 },
+      record { nets = refl; devices = refl; holds = refl; instances = refl; wholes = wholes.1; source = refl },
     )

@@ -13,9 +13,13 @@ use Rattle.vrt_model.specs.declared.ids.Net.{Net}
 abbrev pub unnamed : NetKind → FlatNet
 unnamed kind = record { name = []; kind = kind }
 
--- the low supply, the high one, and nothing more
+-- the low supply, the high one, and nothing more, at the scale of eight levels
 abbrev pub supplies : Circuit
-supplies = record { nets = unnamed (Supply false) ∷ unnamed (Supply true) ∷ []; devices = []; holds = []; instances = []; wholes = [] }
+supplies = record { nets = unnamed (Supply false) ∷ unnamed (Supply true) ∷ []; devices = []; holds = []; instances = []; wholes = []; source = 8 }
+
+-- at the scale of fifteen levels
+abbrev pub HasFifteenLevels : Circuit → Circuit → Type 0
+HasFifteenLevels old new = new ≡ record old { source = 15 }
 
 -- a net of a kind, at the end
 abbrev pub HasNet : NetKind → Circuit → Circuit → Type 0

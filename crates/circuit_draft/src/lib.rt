@@ -2,7 +2,7 @@
 #![tactic(auto)]
 
 ghost use Rattle.std.specs.Prelude.{◌≡◌, ◌<◌, ◌^◌, ◌++◌, ◌∷◌, [], length, false, true, IfOk, OnOk, OnErr};
-ghost use Rattle.circuit_draft.specs.Drawn.{supplies, HasNet, HasDevice, HasInverter, HasHold};
+ghost use Rattle.circuit_draft.specs.Drawn.{supplies, HasFifteenLevels, HasNet, HasDevice, HasInverter, HasHold};
 
 use std::alloc::Global;
 use vrt_model::{Circuit, Device, FlatNet, Hold, HoldEnd, Kind, Net, NetKind, NoMemory, Seq, Text};
@@ -34,12 +34,20 @@ impl Draft {
                 holds: Seq::new(alloc),
                 instances: Seq::new(alloc),
                 wholes: Seq::new(alloc),
+                source: 8,
             },
             alloc,
         };
         draft.net(NetKind::Supply(false))?;
         draft.net(NetKind::Supply(true))?;
         Ok(draft)
+    }
+
+    /// Gives the circuit the scale of fifteen levels.
+    pub fn widen(&mut self)
+        ensures { HasFifteenLevels self.old.circuit self.new.circuit }
+    {
+        self.circuit.source = 15;
     }
 
     /// Adds a net and gives its number.

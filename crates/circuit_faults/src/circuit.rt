@@ -35,7 +35,7 @@ use crate::undriven::undriven_net;
 use bdd_core::{H, Spent, Store, ZERO};
 use channel_parts::Part;
 use node_pool::Span;
-use path_fixpoint::{NetWords, net_words, source_level};
+use path_fixpoint::{NetWords, net_words};
 use vrt_model::Circuit;
 use whole_steps::{OutputPlace, WholeTable, free_driver};
 
@@ -72,7 +72,7 @@ pub(crate) fn words_of(circuit: &Circuit, part: &Part, out: Span) -> NetWords
     requires { net_words (source_level circuit.now) * length part.now.nets ≤ out.len }
     ensures { result ≡ circuit_words circuit.now (record { start = out.start; len = net_words (source_level circuit.now) * length part.now.nets }) }
 {
-    let source = source_level(circuit);
+    let source = circuit.source_level();
     let span = Span {
         start: out.start,
         len: net_words(source) * part.nets.len() as u32,

@@ -8,7 +8,7 @@ use crate::stop::Stop;
 use bdd_core::{H, ONE, Spent, Store, ZERO};
 use circuit_draft::HIGH;
 use node_pool::Span;
-use path_fixpoint::{NetWords, Part, are_spans, is_part, net_words, solve_part, source_level};
+use path_fixpoint::{NetWords, Part, are_spans, is_part, net_words, solve_part};
 use plain_paths::is_flat;
 use std::alloc::Global;
 use vrt_model::{Circuit, Dev, Net, NetKind, Seq, Var};
@@ -121,7 +121,7 @@ impl Board {
     pub(crate) fn open(alloc: Global, circuit: &Circuit, budget: u32) -> Result<Board, Stop> {
         let part = whole_part(alloc, circuit)?;
         let nets = circuit.nets.len().min(MOST) as u32;
-        let words = net_words(source_level(circuit)) * part.nets.len().min(MOST) as u32;
+        let words = net_words(circuit.source_level()) * part.nets.len().min(MOST) as u32;
         let budget = budget.clamp(2, 64_000_000);
         let vars = variables(circuit).min(MOST as u32);
         let mut store = Store::with_budget(alloc, budget, 2 * nets + words, vars)?;

@@ -63,7 +63,7 @@ impl Desk {
                 what,
                 numbers,
             ),
-            Word::Small => tell_small(rt),
+            Word::Small(scale) => tell_small(rt, scale),
         }
     }
 

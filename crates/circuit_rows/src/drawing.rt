@@ -21,7 +21,9 @@ pub(crate) fn draw(draft: &mut Draft, what: Drawing, numbers: &[u32]) -> Result<
         Drawing::NKeeper => keeper(draft, Kind::N, numbers),
         Drawing::PKeeper => keeper(draft, Kind::P, numbers),
         Drawing::Inverter => inverter(draft, net(numbers, 0)?, net(numbers, 1)?),
-        Drawing::Hold => Ok(draft.hold(net(numbers, 0)?, 2)?),
+        Drawing::Hold => hold(draft, net(numbers, 0)?, 2),
+        Drawing::Sized => hold(draft, net(numbers, 0)?, number(numbers, 1)?),
+        Drawing::Scale => scale(draft, number(numbers, 0)?),
         Drawing::Inverters => inverters(draft, numbers),
         Drawing::Row => row(draft, numbers),
     }
@@ -49,6 +51,19 @@ fn device(draft: &mut Draft, kind: Kind, numbers: &[u32]) -> Result<(), Stop> {
 fn keeper(draft: &mut Draft, kind: Kind, numbers: &[u32]) -> Result<(), Stop> {
     let (left, gate, right) = (net(numbers, 0)?, net(numbers, 1)?, net(numbers, 2)?);
     draft.keeper(kind, 4, gate, left, right)?;
+    Ok(())
+}
+
+fn hold(draft: &mut Draft, net: Net, size: u32) -> Result<(), Stop> {
+    draft.hold(net, size.min(255) as u8)?;
+    Ok(())
+}
+
+fn scale(draft: &mut Draft, scale: u32) -> Result<(), Stop> {
+    if scale != 16 {
+        return Err(Stop::NotRead);
+    }
+    draft.widen();
     Ok(())
 }
 

@@ -8,7 +8,7 @@ use plain_paths::{Signals, is_flat, signals_at};
 use std::alloc::Global;
 use vrt_model::{Circuit, Kind, Net, NetKind, Valuation};
 
-/// How many kinds of devices the circuits have: a channel, a kind, and the level 4 or 6.
+/// How many kinds of devices the circuits have: a channel, a kind, and one of two levels.
 const KINDS: usize = 36;
 
 /// How many nodes a circuit's store has room for.
@@ -27,30 +27,62 @@ const CHANNELS: [(u32, u32); 9] = [
     (5, 7),
 ];
 
+/// The levels and the size that the circuits have.
+#[derive(Clone, Copy, Debug, PartialEq, Eq)]
+pub enum Scale {
+    /// Devices of 4 and 6, a hold of 2, and given nets of 8.
+    Eight,
+    /// Devices of 6 and 14, a hold of 5, and given nets of 15.
+    Fifteen,
+}
+
+impl Scale {
+    /// The levels of devices.
+    fn levels(self) -> (u8, u8) {
+        match self {
+            Scale::Eight => (4, 6),
+            Scale::Fifteen => (6, 14),
+        }
+    }
+
+    /// A circuit of the supplies, with three inputs and three plain nets, the last with a hold.
+    fn draft(self, alloc: Global) -> Result<Draft, Stop> {
+        let mut draft = Draft::new(alloc)?;
+        for _ in 0..3u32 {
+            draft.net(NetKind::Input)?;
+        }
+        for _ in 0..3u32 {
+            draft.net(NetKind::Plain)?;
+        }
+        match self {
+            Scale::Eight => draft.hold(Net(7), 2)?,
+            Scale::Fifteen => {
+                draft.widen();
+                draft.hold(Net(7), 5)?;
+            }
+        }
+        Ok(draft)
+    }
+}
+
 /// Adds the device of a number at an input. From KINDS on there is none.
-fn add_numbered(draft: &mut Draft, number: usize, gate: Net) -> Result<(), Stop> {
+fn add_numbered(draft: &mut Draft, scale: Scale, number: usize, gate: Net) -> Result<(), Stop> {
     let Some((left, right)) = CHANNELS.get(number / 4).copied() else {
         return Ok(());
     };
     let kind = if number % 2 == 0 { Kind::N } else { Kind::P };
-    let level = if number / 2 % 2 == 0 { 4 } else { 6 };
+    let (weak, strong) = scale.levels();
+    let level = if number / 2 % 2 == 0 { weak } else { strong };
     draft.device(kind, level, gate, Net(left), Net(right))?;
     Ok(())
 }
 
 /// The circuit of three devices with inputs 2 to 4 as gates. Net 7 has a hold.
-fn circuit(alloc: Global, numbers: [usize; 3]) -> Result<Circuit, Stop> {
-    let mut draft = Draft::new(alloc)?;
-    for _ in 0..3u32 {
-        draft.net(NetKind::Input)?;
-    }
-    for _ in 0..3u32 {
-        draft.net(NetKind::Plain)?;
-    }
-    draft.hold(Net(7), 2)?;
+fn circuit(alloc: Global, scale: Scale, numbers: [usize; 3]) -> Result<Circuit, Stop> {
+    let mut draft = scale.draft(alloc)?;
     let mut gate = 2u32;
     for number in numbers {
-        add_numbered(&mut draft, number, Net(gate))?;
+        add_numbered(&mut draft, scale, number, Net(gate))?;
         gate = gate.saturating_add(1);
     }
     Ok(draft.circuit)
@@ -103,8 +135,8 @@ fn agrees_at(alloc: Global, circuit: &Circuit, board: &Board, number: u32) -> Re
 }
 
 /// Whether the words of a circuit agree with its plain tables at all valuations.
-fn agrees_everywhere(alloc: Global, numbers: [usize; 3]) -> Result<bool, Stop> {
-    let circuit = circuit(alloc, numbers)?;
+fn agrees_everywhere(alloc: Global, scale: Scale, numbers: [usize; 3]) -> Result<bool, Stop> {
+    let circuit = circuit(alloc, scale, numbers)?;
     let mut board = Board::open(alloc, &circuit, BUDGET)?;
     if board.solve(&circuit)?.is_err() {
         return Err(Stop::Spent);
@@ -118,10 +150,10 @@ fn agrees_everywhere(alloc: Global, numbers: [usize; 3]) -> Result<bool, Stop> {
 }
 
 /// How many circuits agree whose first devices are these, with each third device from the second on.
-fn agreeing(alloc: Global, first: usize, second: usize) -> Result<u32, Stop> {
+fn agreeing(alloc: Global, scale: Scale, first: usize, second: usize) -> Result<u32, Stop> {
     let mut agreeing = 0u32;
     for third in second..=KINDS {
-        if agrees_everywhere(alloc, [first, second, third])? {
+        if agrees_everywhere(alloc, scale, [first, second, third])? {
             agreeing = agreeing.saturating_add(1);
         }
     }
@@ -129,11 +161,11 @@ fn agreeing(alloc: Global, first: usize, second: usize) -> Result<u32, Stop> {
 }
 
 /// How many of all circuits agree.
-fn all_agreeing(alloc: Global) -> Result<u32, Stop> {
+fn all_agreeing(alloc: Global, scale: Scale) -> Result<u32, Stop> {
     let mut all = 0u32;
     for first in 0..=KINDS {
         for second in first..=KINDS {
-            all = all.saturating_add(agreeing(alloc, first, second)?);
+            all = all.saturating_add(agreeing(alloc, scale, first, second)?);
         }
     }
     Ok(all)
@@ -141,8 +173,8 @@ fn all_agreeing(alloc: Global) -> Result<u32, Stop> {
 
 /// Tells how many of all circuits agree with the plain search. There are 37 * 38 * 39 / 6, with no device as the last of
 /// 37 kinds, and the order of the devices set aside.
-pub(crate) fn tell_small(rt: HostRuntime) -> anyhow::Result<()> {
-    let all = all_agreeing(rt.alloc())?;
+pub(crate) fn tell_small(rt: HostRuntime, scale: Scale) -> anyhow::Result<()> {
+    let all = all_agreeing(rt.alloc(), scale)?;
     println!(rt; "small: {all} circuits agree with the plain search")?;
     Ok(())
 }

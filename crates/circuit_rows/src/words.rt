@@ -1,5 +1,6 @@
 //! The words of a line.
 
+use crate::small::Scale;
 use crate::stop::Stop;
 use std::alloc::Global;
 
@@ -24,6 +25,10 @@ pub enum Drawing {
     Inverter,
     /// `hold NET`: of size 2.
     Hold,
+    /// `sized NET SIZE`: a hold.
+    Sized,
+    /// `scale 16`: fifteen levels, from here on.
+    Scale,
     /// `inverters FIRST LAST FROM`: to each net from the next one, and to the last from another.
     Inverters,
     /// `row GATE FIRST LAST`: n-devices of level 6 from each net to the next one, up or down.
@@ -78,12 +83,12 @@ pub enum Word {
     Ask(Ask),
     /// A line that asks for strengths and values at all valuations at once.
     Path(Path),
-    /// `small`: all circuits of three plain nets with at most three devices.
-    Small,
+    /// `small`, or `small_fifteen` with fifteen levels: all circuits of three plain nets with at most three devices.
+    Small(Scale),
 }
 
 /// All words.
-const WORDS: [(&str, Word); 26] = [
+const WORDS: [(&str, Word); 29] = [
     ("circuit", Word::Circuit),
     ("plain", Word::Drawing(Drawing::Plain)),
     ("input", Word::Drawing(Drawing::Input)),
@@ -94,6 +99,8 @@ const WORDS: [(&str, Word); 26] = [
     ("p_keeper", Word::Drawing(Drawing::PKeeper)),
     ("inverter", Word::Drawing(Drawing::Inverter)),
     ("hold", Word::Drawing(Drawing::Hold)),
+    ("sized", Word::Drawing(Drawing::Sized)),
+    ("scale", Word::Drawing(Drawing::Scale)),
     ("inverters", Word::Drawing(Drawing::Inverters)),
     ("row", Word::Drawing(Drawing::Row)),
     ("known", Word::Ask(Ask::Known)),
@@ -109,7 +116,8 @@ const WORDS: [(&str, Word); 26] = [
     ("level", Word::Path(Path::Level)),
     ("zeros", Word::Path(Path::Zeros)),
     ("ones", Word::Path(Path::Ones)),
-    ("small", Word::Small),
+    ("small", Word::Small(Scale::Eight)),
+    ("small_fifteen", Word::Small(Scale::Fifteen)),
 ];
 
 /// The word of a name.

@@ -18,6 +18,7 @@ use Rattle.phase_terms.specs.Ready.{IsReady}
 use Rattle.phase_terms.specs.Stores.{counts_of, most_model_words}
 use Rattle.phase_terms.specs.declared.words.WordCounts.{WordCounts}
 use Rattle.vrt_model.proofs.Lists.{map_at, take_one}
+use Rattle.vrt_model.proofs.ElementCounts.{names_count}
 use Rattle.vrt_model.specs.Circuits.{IsFlat}
 use Rattle.vrt_model.specs.Comparison.{Comparison, cell_at, ports_of}
 use Rattle.vrt_model.specs.Elements.{element_count, names_by_kind, signal_name}
@@ -25,20 +26,12 @@ use Rattle.vrt_model.specs.Lists.{At}
 use Rattle.vrt_model.specs.Variables.{is_input}
 use Rattle.vrt_model.specs.declared.circuit.Circuit.{Circuit}
 use Rattle.vrt_model.specs.declared.circuit.FlatNet.{FlatNet}
-use Rattle.vrt_model.specs.declared.blif.LatchKind.{LatchKind}
-use Rattle.vrt_model.specs.declared.blif.LatchKind.TheVariants.{Re, Fe, Ah, Al}
 use Rattle.vrt_model.specs.declared.flat_model.FlatLatch.{FlatLatch}
 use Rattle.vrt_model.specs.declared.flat_model.FlatModel.{FlatModel}
 use Rattle.vrt_model.specs.Levels.{source_level}
 use Rattle.vrt_model.specs.declared.whole.Whole.{Whole}
 
 -- ---- words
-
-names_count : (kind : LatchKind) (name : List ℕ) → length (names_by_kind kind name) ≡ element_count kind
-names_count Re name = refl
-names_count Fe name = refl
-names_count Ah name = refl
-names_count Al name = refl
 
 elements_are : (flat : FlatModel) (ls : List FlatLatch) → latch_elements ls ≡ length (flat_map (λ (l : FlatLatch). names_by_kind l.kind (signal_name flat l.output)) ls)
 elements_are flat [] = refl

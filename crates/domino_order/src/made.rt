@@ -12,7 +12,6 @@ ghost use Rattle.vrt_model.specs.Circuits.{IsFlat};
 ghost use Rattle.vrt_model.specs.Elements.{element_count};
 ghost use Rattle.vrt_model.specs.Variables.{is_input};
 
-use path_fixpoint::source_level;
 use phase_ports::{Port, ports_by};
 use phase_terms::{Comparison, WordCounts};
 use std::alloc::Global;
@@ -100,7 +99,7 @@ pub(crate) fn run_counts(compared: Comparison<'_>, variables: u32) -> Result<Wor
     let elements = elements_of(compared.model.latches.as_slice())?;
     Ok(WordCounts {
         nets: compared.circuit.nets.len() as u32,
-        source: source_level(compared.circuit),
+        source: compared.circuit.source_level(),
         pins: 0,
         models: 0,
         signals: compared.model.signals.len() as u32,

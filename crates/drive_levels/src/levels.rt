@@ -20,7 +20,6 @@ use circuit_faults::has_keeper;
 use known_nets::is_plain;
 use node_pool::Span;
 use output_levels::circuit_levels;
-use path_fixpoint::source_level;
 use vrt_model::{Circuit, Net};
 
 /// Writes the levels of another table of as many places.
@@ -91,7 +90,8 @@ fn solved_levels(
 /// a root of its drive there, as a hold is of its size.
 ///
 /// Handles from before keep their functions and words outside `out` stay as they are, also where the budget is used up. Where the
-/// handles read only the first `u` variables, a part of p nets and q devices takes at most 32 p q + 9 p operations of `2 ^ u` nodes.
+/// handles read only the first `u` variables, a part of p nets and q devices takes at most 4 l p q + (l + 1) p operations of `2 ^ u` nodes, where l is
+/// the source level.
 pub fn net_levels(
     store: &mut Store,
     circuit: &Circuit,
@@ -158,7 +158,7 @@ pub fn level_of(circuit: &Circuit, levels: &NetLevels, net: Net) -> Option<u8>
     ensures { result ≡ level_in circuit.now levels.now net.0 }
 {
     if !is_plain(circuit, net.0 as usize) {
-        return Some(source_level(circuit));
+        return Some(circuit.source_level());
     }
     same_level(
         level_at(levels.bare.as_slice(), net.0 as usize),

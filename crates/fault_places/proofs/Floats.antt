@@ -11,10 +11,12 @@ use Rattle.vrt_model.proofs.Laws.{shows_from, shows_no_float}
 use Rattle.vrt_model.proofs.Lists.{at_map, at_there}
 use Rattle.vrt_model.proofs.Members.{all_among}
 use Rattle.vrt_model.proofs.Networks.{given_source, network_levels}
+use Rattle.vrt_model.proofs.Scales.{least_below}
 use Rattle.vrt_model.specs.Circuits.{IsHold}
 use Rattle.vrt_model.specs.Comparison.{Comparison, is_observed, phase_at}
 use Rattle.vrt_model.specs.Held.{setting_of}
 use Rattle.vrt_model.specs.Known.{IsPlain}
+use Rattle.vrt_model.specs.Levels.{source_level}
 use Rattle.vrt_model.specs.Lists.{At}
 use Rattle.vrt_model.specs.Networks.{HasLevels, HasRanges, IsSource}
 use Rattle.vrt_model.specs.Path.{Hop, IsPath, IsRoot, Network, Root, end_of}
@@ -78,16 +80,16 @@ module _ (c : Circuit) (phase : Phase) (observed : ℕ → Bool) (ranges : HasRa
   given_shows s n g = shows_from (circuit_in s) n (s.reading n) reached only
     where
       reached : Reaches (circuit_in s) n (s.reading n)
-      reached = (record { net = n; level = 8; value = s.reading n }, [], inl (g.0, g.1, g.2, refl, refl), source_strength (circuit_in s) (levels s) n (source s n g), refl, refl)
+      reached = (record { net = n; level = source_level c; value = s.reading n }, [], inl (g.0, g.1, g.2, refl, refl), source_strength (circuit_in s) (levels s) n (source s n g), refl, refl)
 
       -- the root of a path of the source level is the net itself
       own_value : (r : Root) → IsRoot (circuit_in s) r → r.net ≡ n → IsStrength (circuit_in s) r.net r.level → r.value ≡ s.reading n
       own_value r from e strong =
-          let top : 8 ≤ r.level = strong.0 (record { net = n; level = 8; value = s.reading n }) [] (inl (g.0, g.1, g.2, refl, refl)) (sym e) in
+          let top : source_level c ≤ r.level = strong.0 (record { net = n; level = source_level c; value = s.reading n }) [] (inl (g.0, g.1, g.2, refl, refl)) (sym e) in
           elim from [
             | inl h ↦ h.4 ∙ ap s.reading e
             | inr other ↦ elim other [
-              | inl h ↦ absurd (let same = h.4 in let le = (all_among (IsHold c) c.holds h.1 ranges.holds (h.0, h.2)).size.1 in omega (arith, top, same, le))
+              | inl h ↦ absurd (let same = h.4 in let le = (all_among (IsHold c) c.holds h.1 ranges.holds (h.0, h.2)).size.1 in let below = least_below c in omega (arith, top, same, le, below))
               | inr o ↦ absurd (no_output s o.0 o.1 r.net o.2 o.3 (subst (IsGiven c) (sym e) g))
             ]
           ]

@@ -21,6 +21,7 @@ use Rattle.vrt_model.proofs.Laws.{turned}
 use Rattle.vrt_model.proofs.Members.{at_none}
 use Rattle.vrt_model.proofs.Networks.{given_source, network_finite, network_levels}
 use Rattle.vrt_model.specs.Known.{IsPlain, is_plain_at}
+use Rattle.vrt_model.specs.Levels.{source_level}
 use Rattle.vrt_model.specs.Lists.{Among, At}
 use Rattle.vrt_model.specs.Networks.{HasLevels, HasRanges, IsSource}
 use Rattle.vrt_model.specs.Path.{Hop, IsOn, IsPath, IsRoot, Joins, Network, Root, end_of, level_of, level_of_drive}
@@ -202,7 +203,7 @@ module _ (cell c rest : Circuit) (at place fresh : ℕ → ℕ) (remaining compa
         record {
           value = value;
           alone = record {
-            root = record { net = n; level = 8; value = value };
+            root = record { net = n; level = source_level cell; value = value };
             is = inl (here.0, here.1, supply_given cell n value here, refl, sym (supplies n value here).0);
             net = refl;
             level = refl;
@@ -212,7 +213,7 @@ module _ (cell c rest : Circuit) (at place fresh : ℕ → ℕ) (remaining compa
                 ∙ (supplies n value here).0;
           };
           above = record {
-            root = record { net = at n; level = 8; value = value };
+            root = record { net = at n; level = source_level c; value = value };
             is = inl (there.0, there.1, supply_given c (at n) value there, refl, sym (supplies n value here).1);
             net = refl;
             level = refl;
@@ -260,7 +261,7 @@ module _ (cell c rest : Circuit) (at place fresh : ℕ → ℕ) (remaining compa
             | inr o ↦
                 let out = pin_found c o.0 o.1 o.2 in
                 let h = placed.pins out.0 n (o.0, out.1) (p.inner_plain n ins) (ap (λ (q : WholePin). q.net.0) out.2 ∙ sym o.3 ∙ e) in
-                let level : root.level ≡ level_of_drive 8 out.0.pin.drive = o.4 ∙ ap (λ (q : WholePin). level_of_drive 8 q.drive) (sym out.2) in
+                let level : root.level ≡ level_of_drive (source_level c) out.0.pin.drive = o.4 ∙ ap (λ (q : WholePin). level_of_drive (source_level c) q.drive) (sym out.2) in
                 let le = h.1 in
                 (h.0, omega (arith, level, le))
           ]
@@ -282,7 +283,7 @@ module _ (cell c rest : Circuit) (at place fresh : ℕ → ℕ) (remaining compa
 
     part_inside : IsInside part circuit_part at inner exposed_there drive
     part_inside = record {
-      source = refl;
+      source = placed.source;
       no_root = no_root;
       bounded = λ d n on touch.
           let own = part_on d on in
@@ -339,7 +340,7 @@ module _ (cell c rest : Circuit) (at place fresh : ℕ → ℕ) (remaining compa
     roots_there root is shows =
         let rem = left.compared_remaining root.net (compared_is root.net shows) in
         elim is [
-          | inl g ↦ (let other = left.nets root.net g.0 rem g.1 in inl (other.0, other.1, ap is_given other.2 ∙ g.2, g.3, g.4 ∙ sym (p.reading root.net rem)))
+          | inl g ↦ (let other = left.nets root.net g.0 rem g.1 in inl (other.0, other.1, ap is_given other.2 ∙ g.2, g.3 ∙ left.source, g.4 ∙ sym (p.reading root.net rem)))
           | inr more ↦ elim more [
             | inl h ↦ (let g = left.holds h.0 h.1 h.2 in inr (inl (h.0, g.0, g.1, h.3 ∙ sym g.2.net, h.4 ∙ sym g.2.size, h.5)))
             | inr o ↦
@@ -350,7 +351,7 @@ module _ (cell c rest : Circuit) (at place fresh : ℕ → ℕ) (remaining compa
                   pin.0.pin,
                   pin_there rest (place o.0) pin.0 pin.1,
                   o.3 ∙ ap (λ (q : WholePin). q.net.0) (sym out.2) ∙ sym pin.2.net,
-                  o.4 ∙ ap (λ (q : WholePin). level_of_drive 8 q.drive) (sym out.2) ∙ ap (level_of_drive 8) (sym pin.2.drive),
+                  o.4 ∙ ap (λ (q : WholePin). level_of_drive (source_level c) q.drive) (sym out.2) ∙ ap (level_of_drive (source_level c)) (sym pin.2.drive) ∙ ap (λ (x : ℕ). level_of_drive x pin.0.pin.drive) left.source,
                   o.5 ∙ sym (driven o.0 out.0 out.1),
                 ))
           ]
@@ -370,16 +371,16 @@ module _ (cell c rest : Circuit) (at place fresh : ℕ → ℕ) (remaining compa
         elim is [
           | inl g ↦
               let net = left.nets_back k g.0 (left.compared_remaining k (compared_is k shows)) (subst (λ (m : ℕ). At rest.nets m g.0) e g.1) in
-              inl (inl (net.0, net.1, ap is_given net.2 ∙ g.2, g.3, g.4 ∙ ap t.reading e ∙ p.reading k (left.compared_remaining k (compared_is k shows))))
+              inl (inl (net.0, net.1, ap is_given net.2 ∙ g.2, g.3 ∙ sym left.source, g.4 ∙ ap t.reading e ∙ p.reading k (left.compared_remaining k (compared_is k shows))))
           | inr more ↦ elim more [
             | inl h ↦ (let g = left.holds_back h.0 h.1 h.2 in inl (inr (inl (h.0, g.0, g.1, sym e ∙ h.3 ∙ g.2.net, h.4 ∙ g.2.size, h.5))))
             | inr o ↦
                 let out = pin_found rest o.0 o.1 o.2 in
-                by_pin o.0 out.0 out.1 (ap (λ (q : WholePin). q.net.0) out.2 ∙ sym o.3 ∙ e) (o.4 ∙ ap (λ (q : WholePin). level_of_drive 8 q.drive) (sym out.2)) o.5
+                by_pin o.0 out.0 out.1 (ap (λ (q : WholePin). q.net.0) out.2 ∙ sym o.3 ∙ e) (o.4 ∙ ap (λ (q : WholePin). level_of_drive (source_level rest) q.drive) (sym out.2)) o.5
           ]
         ]
       where
-        by_pin : (j : ℕ) (pin : OutputPin) → At (output_pins rest) j pin → pin.pin.net.0 ≡ k → root.level ≡ level_of_drive 8 pin.pin.drive → root.value ≡ t.driven j → IsRootBack root k
+        by_pin : (j : ℕ) (pin : OutputPin) → At (output_pins rest) j pin → pin.pin.net.0 ≡ k → root.level ≡ level_of_drive (source_level rest) pin.pin.drive → root.value ≡ t.driven j → IsRootBack root k
         by_pin j pin there net level bit =
             elim (left.pins_back j pin there) [
               | inl old ↦
@@ -389,7 +390,7 @@ module _ (cell c rest : Circuit) (at place fresh : ℕ → ℕ) (remaining compa
                     out.pin,
                     pin_there c old.0 out old.2,
                     sym net ∙ old.4.net,
-                    level ∙ ap (level_of_drive 8) old.4.drive,
+                    level ∙ ap (level_of_drive (source_level rest)) old.4.drive ∙ ap (λ (x : ℕ). level_of_drive x out.pin.drive) (sym left.source),
                     bit ∙ ap t.driven (sym old.3) ∙ driven old.0 out old.2,
                   )))
               | inr new ↦
@@ -410,7 +411,7 @@ module _ (cell c rest : Circuit) (at place fresh : ℕ → ℕ) (remaining compa
 
     part_replaced : IsReplaced part circuit_part whole_part at (λ n. n) inner exposed_there compared_there drive bits
     part_replaced = record {
-      source = refl;
+      source = left.source;
       exposed_compared = λ n e. let is = exposed_is n e in is_compared (at n) (left.exposed_compared n is.0) (inl is.1);
       inside_compared = λ n ins co. is_exposed n ins (left.inside_compared n (p.inner_plain n ins) (compared_is (at n) co));
       moved_apart = λ k l ks ls e. e;
@@ -488,17 +489,17 @@ module _ (cell c rest : Circuit) (at place fresh : ℕ → ℕ) (remaining compa
     whole_law =
         whole_stands_for_unjoined_outputs part circuit_part whole_part at (λ n. n) inner exposed_there compared_there drive bits (length cell.nets) (length c.nets) (length rest.nets)
         (restricted_levels cell_network near cell_levels) (restricted_levels circuit_network at_joint circuit_levels) (restricted_levels whole_network at_left whole_levels)
-        (restricted_finite cell_network near (length cell.nets) 8 (network_finite cell true (λ j. false) (record { reading = bits; driven = λ j. false }) ranges))
-        (restricted_finite circuit_network at_joint (length c.nets) 8 (network_finite c true held s all_ranges))
-        (restricted_finite whole_network at_left (length rest.nets) 8 (network_finite rest true held t whole_ranges))
+        (restricted_finite cell_network near (length cell.nets) (source_level cell) (network_finite cell true (λ j. false) (record { reading = bits; driven = λ j. false }) ranges))
+        (restricted_finite circuit_network at_joint (length c.nets) (source_level c) (network_finite c true held s all_ranges))
+        (restricted_finite whole_network at_left (length rest.nets) (source_level rest) (network_finite rest true held t whole_ranges))
         part_inside part_replaced (λ m n em en j. unjoined m n (exposed_is m em).0 (exposed_is n en).0 j)
 
     kept_inside : (n : ℕ) (v : Bool) → inner n ≡ true → Reaches part n v → Reaches circuit_part (at n) v
     kept_inside =
         (outside_changes_nothing part circuit_part at inner exposed_there drive (length cell.nets) (length c.nets) (restricted_levels cell_network near cell_levels)
         (restricted_levels circuit_network at_joint circuit_levels)
-        (restricted_finite cell_network near (length cell.nets) 8 (network_finite cell true (λ j. false) (record { reading = bits; driven = λ j. false }) ranges))
-        (restricted_finite circuit_network at_joint (length c.nets) 8 (network_finite c true held s all_ranges))
+        (restricted_finite cell_network near (length cell.nets) (source_level cell) (network_finite cell true (λ j. false) (record { reading = bits; driven = λ j. false }) ranges))
+        (restricted_finite circuit_network at_joint (length c.nets) (source_level c) (network_finite c true held s all_ranges))
         (λ n e. let plain = placed.exposed_plain n (exposed_is n e).0 in slice_get_within cell.nets n plain.0 plain.1) part_inside).1
 
     -- compared nets of the region respond with the cell whole as with the cell in the circuit

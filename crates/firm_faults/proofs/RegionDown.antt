@@ -34,6 +34,7 @@ use Rattle.vrt_model.specs.Checked.{with_circuit}
 use Rattle.vrt_model.specs.Circuits.{IsDevice}
 use Rattle.vrt_model.specs.Comparison.{Comparison, is_observed, phase_at}
 use Rattle.vrt_model.specs.Known.{HasArc, IsPlain, IsTogether}
+use Rattle.vrt_model.specs.Levels.{source_level}
 use Rattle.vrt_model.specs.Lists.{Among, At}
 use Rattle.vrt_model.specs.Path.{Hop, IsPath, Joins, Network, Root, end_of}
 use Rattle.vrt_model.specs.Reading.{HasGivenBit, IsReading, conducts, devices_of, is_given}
@@ -51,6 +52,7 @@ use Rattle.vrt_model.specs.declared.rules.Phase.{Phase}
 use Rattle.vrt_model.specs.declared.whole.Whole.{Whole}
 use Rattle.vrt_model.specs.declared.whole.WholePin.{WholePin}
 use Rattle.whole_solutions.proofs.GivenShow.{given_shows}
+use Rattle.whole_solutions.proofs.LeastLevels.{least_above}
 use Rattle.whole_solutions.proofs.SettledSets.{supply_bit}
 
 module _ (k : Comparison) (phase : ℕ) (setting : Setting) (cell whole_circuit : Circuit) (at place fresh : ℕ → ℕ) (remaining compared cell_observed exposed known : ℕ → Bool)
@@ -438,7 +440,7 @@ module _ (k : Comparison) (phase : ℕ) (setting : Setting) (cell whole_circuit 
     linked_calm : (m : ℕ) → IsLinkedOutput k.circuit here joint m → IsResponse below m FightResponse → ⊥
     linked_calm m l fight =
         let up = linked_up m l in
-        let a = some_response view (length whole_circuit.nets) 8 (network_finite whole_circuit true setting.held r p.whole_ranges) m in
+        let a = some_response view (length whole_circuit.nets) (source_level whole_circuit) (network_finite whole_circuit true setting.held r p.whole_ranges) m in
         let same = one_response below m a.0 FightResponse ((linked_downs m up).responds (linked_compared m l) a.0 a.1) fight in
         calm m up (subst (IsResponse view m) same a.1)
 
@@ -463,7 +465,7 @@ module _ (k : Comparison) (phase : ℕ) (setting : Setting) (cell whole_circuit 
         let strong = sol.strengths n true e in (
           reg.pins t r changed.1 is (λ m b. same_base m b) (λ m b. refl) (fresh n) pin.0 pin.1 (pin_region_is n plain rem ins) ∙ sol.drives n pin.0 pin.1 pin.2 plain pin.3,
           strong,
-          reached_is_driven cell true (record { reading = bits; driven = λ j. false }) n (drive n) (bits n) (λ d a. let low = (all_among (IsDevice cell) cell.devices d own.ranges.devices (device_among true cell d a).0).level.0 in omega (arith, low)) p.placed.no_holds p.placed.no_wholes
+          reached_is_driven cell true (record { reading = bits; driven = λ j. false }) n (drive n) (bits n) (λ d a. let low = (all_among (IsDevice cell) cell.devices d own.ranges.devices (device_among true cell d a).0).level.0 in let some = least_above cell in omega (arith, low, some)) p.placed.no_holds p.placed.no_wholes
               (shown_bit_reaches (cell_alone cell bits) n (bits n) shown) strong,
           shown,
         )
@@ -506,7 +508,7 @@ module _ (k : Comparison) (phase : ℕ) (setting : Setting) (cell whole_circuit 
 
     calm_bit : (l : ℕ) → exposed l ≡ true → region (at l) ≡ true → (IsResponse view (at l) FightResponse → ⊥) → sr (at l) ≡ bits l
     calm_bit l e ins none =
-        let a = some_response view (length whole_circuit.nets) 8 (network_finite whole_circuit true setting.held r p.whole_ranges) (at l) in
+        let a = some_response view (length whole_circuit.nets) (source_level whole_circuit) (network_finite whole_circuit true setting.held r p.whole_ranges) (at l) in
         by_response a.0 a.1
       where
         no_float : (b : Bool) → Reaches below (at l) b → IsResponse below (at l) FloatResponse → ⊥

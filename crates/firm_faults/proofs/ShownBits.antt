@@ -2,6 +2,8 @@
 use Rattle.std.proofs.Common.{◌≡◌, ℕ, ◌<◌, Bool, true, false, List, [], ◌∷◌, arith, subst, refl, inl, inr}
 use Rattle.cell_inside.proofs.OutputPins.{pin_found}
 use Rattle.vrt_model.proofs.Members.{at_none}
+use Rattle.vrt_model.proofs.Scales.{least_below}
+use Rattle.vrt_model.specs.Levels.{source_level}
 use Rattle.vrt_model.specs.Lists.{Among, At}
 use Rattle.vrt_model.specs.Path.{Hop, IsPath, Network, Root, level_of}
 use Rattle.vrt_model.specs.Reading.{devices_of}
@@ -38,7 +40,7 @@ reached_is_driven cell which s n l v levels no_holds no_wholes reaches strong =
         omega (arith, before, here)
     above root [] path =
         elim path [
-          | inl g ↦ (let is : root.level ≡ 8 = g.3 in omega (arith, is))
+          | inl g ↦ (let is : root.level ≡ source_level cell = g.3 in let below = least_below cell in omega (arith, is, below))
           | inr other ↦ elim other [
             | inl h ↦ absurd (at_none h.0 h.1 (subst (λ (hs : List Hold). At hs h.0 h.1) no_holds h.2))
             | inr o ↦

@@ -14,6 +14,7 @@ use Rattle.vrt_model.proofs.GivenNets.{source_strength}
 use Rattle.vrt_model.proofs.Networks.{network_levels}
 use Rattle.vrt_model.specs.Checked.{with_circuit}
 use Rattle.vrt_model.specs.Comparison.{Comparison, phase_at}
+use Rattle.vrt_model.specs.Levels.{source_level}
 use Rattle.vrt_model.specs.Lists.{Among, At}
 use Rattle.vrt_model.specs.Path.{IsPath, Network, Root, level_of_drive}
 use Rattle.vrt_model.specs.Response.{Fight as FightResponse, Float as FloatResponse, IsResponse, Reaches}
@@ -93,7 +94,7 @@ module _ (k : Comparison) (phase : ℕ) (setting : Setting) (cell whole_circuit 
       false≢true (sym (reaching false fight.1) ∙ reaching true fight.0)
 
   -- nor does one float that is driven
-  driven_reaches : (n j : ℕ) (pin : OutputPin) → level_of_drive 8 pin.pin.drive ≡ 8 → At (output_pins whole_circuit) j pin → pin.pin.net.0 ≡ n → Reaches view n (r.driven j)
+  driven_reaches : (n j : ℕ) (pin : OutputPin) → level_of_drive (source_level whole_circuit) pin.pin.drive ≡ source_level whole_circuit → At (output_pins whole_circuit) j pin → pin.pin.net.0 ≡ n → Reaches view n (r.driven j)
   driven_reaches n j pin soft e net = (
     root,
     [],
@@ -104,7 +105,7 @@ module _ (k : Comparison) (phase : ℕ) (setting : Setting) (cell whole_circuit 
   )
     where
       root : Root
-      root = record { net = n; level = 8; value = r.driven j }
+      root = record { net = n; level = source_level whole_circuit; value = r.driven j }
 
       is_root : IsPath view root []
       is_root = inr (inr (j, pin.pin, pin_there whole_circuit j pin e, sym net, sym soft, refl))

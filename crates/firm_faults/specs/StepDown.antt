@@ -11,6 +11,7 @@ use Rattle.vrt_model.specs.Checked.{with_circuit}
 use Rattle.vrt_model.specs.Comparison.{Comparison, is_observed, phase_at}
 use Rattle.vrt_model.specs.Determined.{IsLinkedTo}
 use Rattle.vrt_model.specs.Known.{HasArc, IsKnown, IsPlain, IsRanking, IsTogether, IsUnknown}
+use Rattle.vrt_model.specs.Levels.{source_level}
 use Rattle.vrt_model.specs.Lists.{Among, At}
 use Rattle.vrt_model.specs.Networks.{HasRanges}
 use Rattle.vrt_model.specs.Path.{level_of_drive}
@@ -108,7 +109,7 @@ pub record IsStepDown (k : Comparison) (phase : ℕ) (setting : Setting) (cell w
   pub outputs :
       (m : ℕ) → IsPlain cell m → remaining (at m) ≡ true
       → (cell_observed m ≡ true)
-      × ((pin : OutputPin) × At (output_pins whole_circuit) (fresh m) pin × (pin.whole ≡ x) × (pin.pin.net.0 ≡ at m) × (exposed m ≡ false → level_of_drive 8 pin.pin.drive ≡ 8))
+      × ((pin : OutputPin) × At (output_pins whole_circuit) (fresh m) pin × (pin.whole ≡ x) × (pin.pin.net.0 ≡ at m) × (exposed m ≡ false → level_of_drive (source_level whole_circuit) pin.pin.drive ≡ source_level whole_circuit))
   -- an exposed output is not known in the cell, and no other output is in its part of the kept cell
   pub unknown : (m : ℕ) → exposed m ≡ true → IsUnknown cell (phase_at k.rules phase) m
   pub alone :

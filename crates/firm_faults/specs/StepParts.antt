@@ -8,6 +8,7 @@ use Rattle.firm_faults.specs.StepDown.{HasOneMoreWhole, IsInnerSolution, IsPinOf
 use Rattle.vrt_model.specs.Comparison.{CellPort, Comparison, is_observed, output_signal, phase_at, ports_of}
 use Rattle.vrt_model.specs.Determined.{IsLinkedTo}
 use Rattle.vrt_model.specs.Known.{HasArc, IsPlain, IsTogether, IsUnknown}
+use Rattle.vrt_model.specs.Levels.{source_level}
 use Rattle.vrt_model.specs.Lists.{Among, At}
 use Rattle.vrt_model.specs.Networks.{HasRanges}
 use Rattle.vrt_model.specs.Path.{level_of_drive}
@@ -49,7 +50,7 @@ pub record StandsForInstance (k q : Comparison) (phase : ℕ) (setting : Setting
   pub instance : Among whole_circuit.instances i
   pub outputs :
       (m : ℕ) → IsPlain q.circuit m → remaining (at m) ≡ true
-      → (pin : OutputPin) × At (output_pins whole_circuit) (fresh m) pin × (pin.whole ≡ x) × (pin.pin.net.0 ≡ at m) × (exposed m ≡ false → level_of_drive 8 pin.pin.drive ≡ 8)
+      → (pin : OutputPin) × At (output_pins whole_circuit) (fresh m) pin × (pin.whole ≡ x) × (pin.pin.net.0 ≡ at m) × (exposed m ≡ false → level_of_drive (source_level whole_circuit) pin.pin.drive ≡ source_level whole_circuit)
   pub links :
       (j m n : ℕ) (pin : WholePin) (net : FlatNet) → IsPinOf whole_circuit fresh x m j pin → IsPlain q.circuit m → pin.net.0 ≡ at m → At q.circuit.nets n net → net.kind ≡ Input
       → IsChain (HasArc q.circuit (phase_at k.rules phase)) n m

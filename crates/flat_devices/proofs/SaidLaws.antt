@@ -26,6 +26,6 @@ kind_is design rules models model are =
 pub level_is : (design : Design) (rules : Rules) (name : List ℕ) (index : RuleIndex) (own : DeviceTable) (device model : List ℕ) → AreTables design rules name index own
     → device_level index.models own device model ≡ level_of rules name device model
 level_is design rules name index own device model are =
-    ap₂ (λ (o : Option ℕ) (p : Option Declared). unwrap_or (option_or o (option_map (λ (d : Declared). d.level) p)) 6) (are.devices_are.strengths_are device) (are.index_is.models_are.rules_are model)
-    ∙ ap (λ (p : Option ℕ). unwrap_or (option_or (declared_level rules.strengths name device) p) 6)
-    (option_twice (λ (d : Declared). d.level) declared_by (find (λ (r : DeviceRule). bytes_eq r.model model) rules.devices))
+    ap₂ (λ (o : Option ℕ) (p : Option Declared). unwrap_or (option_or o (option_map (λ (d : Declared). d.level) p)) own.usual) (are.devices_are.strengths_are device) (are.index_is.models_are.rules_are model)
+    ∙ ap₂ (λ (p : Option ℕ) (usual : ℕ). unwrap_or (option_or (declared_level rules.strengths name device) p) usual)
+    (option_twice (λ (d : Declared). d.level) declared_by (find (λ (r : DeviceRule). bytes_eq r.model model) rules.devices)) are.devices_are.usual_is

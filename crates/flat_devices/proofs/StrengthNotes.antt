@@ -12,6 +12,7 @@ use Rattle.rule_index.specs.Lines.{AreDeviceLines, places_in}
 use Rattle.rule_index.specs.declared.lines.DeviceLines.{DeviceLines}
 use Rattle.flat_devices.specs.DeviceTables.{AreDevices, declared_level, first_some, kept_at, level_at, level_if}
 use Rattle.flat_devices.specs.declared.device_tables.DeviceTable.{DeviceTable}
+use Rattle.vrt_model.specs.Levels.{usual_level}
 use Rattle.vrt_model.specs.Lists.{has_name}
 use Rattle.vrt_model.specs.declared.rules.KeeperRule.{KeeperRule}
 use Rattle.vrt_model.specs.declared.rules.Rules.{Rules}
@@ -87,11 +88,12 @@ firsts_of cell device (r ∷ rules) = by_cell (bytes_eq r.cell cell) (firsts_of 
   by_cell false e = e
 
 -- the table of the devices of a cell
-pub devices_noted : (rules : Rules) (lines : DeviceLines) (cell : List ℕ) (strong kept : List ℕ) (table : DeviceTable) → AreDeviceLines rules lines
+pub devices_noted : (rules : Rules) (lines : DeviceLines) (cell : List ℕ) (strong kept : List ℕ) (table : DeviceTable) → AreDeviceLines rules lines → table.usual ≡ usual_level rules
     → strong ≡ places_in lines.strengths cell → kept ≡ places_in lines.keepers cell
     → ((device : List ℕ) → value_in table.strengths device ≡ first_some (level_at rules.strengths device) strong)
     → ((device : List ℕ) → has_name table.keepers device ≡ list_any (kept_at rules.keepers device) kept) → AreDevices rules cell table
-devices_noted rules lines cell strong kept table are s k by_strength by_keeper = record {
+devices_noted rules lines cell strong kept table are usual s k by_strength by_keeper = record {
+  usual_is = usual;
   strengths_are = λ device.
       by_strength device ∙ ap (first_some (level_at rules.strengths device)) s
       ∙ firsts_at (slice_get rules.strengths) (level_if device) (places_in lines.strengths cell) (filter (λ (r : StrengthRule). bytes_eq r.cell cell) rules.strengths) (are.strengths cell)

@@ -2,6 +2,7 @@
 use Rattle.std.specs.Prelude.{◌≡◌, ℕ, List, [], ◌∷◌, Bool, false, Option, Some, None, option_and_then, option_map, unwrap_or, find, cond, ◌&&◌, bytes_eq, slice_get}
 use Rattle.std.specs.List.{list_any}
 use Rattle.std.specs.Option.{option_or}
+use Rattle.vrt_model.specs.Levels.{usual_level}
 use Rattle.vrt_model.specs.Lists.{has_name}
 use Rattle.flat_devices.specs.declared.device_tables.DeviceTable.{DeviceTable}
 use Rattle.rule_index.specs.Firsts.{IsFresh, value_in}
@@ -46,6 +47,7 @@ pub record AreFreshDevices (table : DeviceTable) : Type 0 where
   pub keepers : table.keepers ≡ []
 
 pub record AreDevices (rules : Rules) (cell : List ℕ) (table : DeviceTable) : Type 0 where
+  pub usual_is : table.usual ≡ usual_level rules
   pub strengths_are : (device : List ℕ) → value_in table.strengths device ≡ declared_level rules.strengths cell device
   pub keepers_are : (device : List ℕ) → has_name table.keepers device ≡ is_kept rules.keepers cell device
 
@@ -56,4 +58,4 @@ pub record AreTables (design : Design) (rules : Rules) (cell : List ℕ) (index 
 
 -- the level of a device: a `strength` rule goes before a `device` rule
 abbrev pub device_level : ModelTable → DeviceTable → List ℕ → List ℕ → ℕ
-device_level models table device model = unwrap_or (option_or (value_in table.strengths device) (level_in models model)) 6
+device_level models table device model = unwrap_or (option_or (value_in table.strengths device) (level_in models model)) table.usual

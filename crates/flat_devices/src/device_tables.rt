@@ -16,7 +16,9 @@ use vrt_model::{KeeperRule, NoMemory, Rules, Seq, StrengthRule};
 /// What is said of the devices of one cell: the levels of `strength` rules, and the keepers.
 #[derive(Drop)]
 pub struct DeviceTable {
-    /// The levels of single transistors of the cell, 4 to 7, by their names.
+    /// The level of a device for which no rule has one.
+    pub usual: u8,
+    /// The levels of single transistors of the cell by their names.
     pub strengths: FirstValues<u8>,
     /// The names of the transistors of the cell that `keeper` rules name.
     pub keepers: Names,
@@ -84,6 +86,7 @@ impl DeviceTable {
         ensures { AreFreshDevices result }
     {
         DeviceTable {
+            usual: 0,
             strengths: FirstValues::new(alloc),
             keepers: Names::new(alloc),
         }
@@ -96,6 +99,7 @@ impl DeviceTable {
         requires lines { AreDeviceLines rules.now lines.now }
         ensures { OnOk result (AreDevices rules.now cell.now self.new) }
     {
+        self.usual = rules.usual_level();
         let strengths = lines.strengths.places(cell);
         note_strengths(&mut self.strengths, &rules.strengths, strengths)?;
         let keepers = lines.keepers.places(cell);
@@ -104,7 +108,7 @@ impl DeviceTable {
     }
 }
 
-/// The level of a device: a `strength` rule goes before a `device` rule; 6 where there is none.
+/// The level of a device: a `strength` rule goes before a `device` rule; the usual one where there is none.
 pub fn level(models: &ModelTable, table: &DeviceTable, device: &[u8], model: &[u8]) -> u8
     ensures { result ≡ device_level models.now table.now device.now model.now }
 {
@@ -112,7 +116,7 @@ pub fn level(models: &ModelTable, table: &DeviceTable, device: &[u8], model: &[u
         Some(level) => *level,
         None => match models.level(model) {
             Some(level) => level,
-            None => 6,
+            None => table.usual,
         },
     }
 }

@@ -9,6 +9,7 @@ use Rattle.vrt_model.specs.Circuits.{IsCircuit, IsFlat}
 use Rattle.vrt_model.specs.FlatCircuit.{flat_circuit_of, flat_devices, flat_holds, flat_instances, flat_nets}
 use Rattle.vrt_model.specs.Unrolled.{Top}
 use Rattle.vrt_model.specs.Inputs.{AreRules}
+use Rattle.vrt_model.specs.Levels.{source_of}
 use Rattle.vrt_model.specs.Unsupported.{Limit, circuit_limits, too_large, top_before}
 use Rattle.vrt_model.specs.declared.circuit.Circuit.{Circuit}
 use Rattle.vrt_model.specs.declared.circuit.Device.{Device}
@@ -21,17 +22,17 @@ use Rattle.vrt_model.specs.declared.pairing.PortRole.{PortRole}
 use Rattle.vrt_model.specs.declared.rules.Rules.{Rules}
 use Rattle.vrt_model.specs.declared.whole.Whole.{Whole}
 
-same_circuit : (nets nets' : List FlatNet) (devices devices' : List Device) (holds holds' : List Hold) (instances instances' : List FlatInstance) (wholes wholes' : List Whole)
-    → nets ≡ nets' → devices ≡ devices' → holds ≡ holds' → instances ≡ instances' → wholes ≡ wholes'
-    → (let one : Circuit = record { nets = nets; devices = devices; holds = holds; instances = instances; wholes = wholes } in one)
-    ≡ (let one : Circuit = record { nets = nets'; devices = devices'; holds = holds'; instances = instances'; wholes = wholes' } in one)
-same_circuit nets nets' devices devices' holds holds' instances instances' wholes wholes' n d h i w = cc
+same_circuit : (nets nets' : List FlatNet) (devices devices' : List Device) (holds holds' : List Hold) (instances instances' : List FlatInstance) (wholes wholes' : List Whole) (source source' : ℕ)
+    → nets ≡ nets' → devices ≡ devices' → holds ≡ holds' → instances ≡ instances' → wholes ≡ wholes' → source ≡ source'
+    → (let one : Circuit = record { nets = nets; devices = devices; holds = holds; instances = instances; wholes = wholes; source = source } in one)
+    ≡ (let one : Circuit = record { nets = nets'; devices = devices'; holds = holds'; instances = instances'; wholes = wholes'; source = source' } in one)
+same_circuit nets nets' devices devices' holds holds' instances instances' wholes wholes' source source' n d h i w s = cc
 
-pub assembled : (t : Top) (nets : List FlatNet) (devices : List Device) (holds : List Hold) (instances : List FlatInstance) (wholes : List Whole)
-    → nets ≡ flat_nets t → devices ≡ flat_devices t → holds ≡ flat_holds t → instances ≡ flat_instances t → wholes ≡ []
-    → (let one : Circuit = record { nets = nets; devices = devices; holds = holds; instances = instances; wholes = wholes } in one) ≡ flat_circuit_of t
+pub assembled : (t : Top) (nets : List FlatNet) (devices : List Device) (holds : List Hold) (instances : List FlatInstance) (wholes : List Whole) (source : ℕ)
+    → nets ≡ flat_nets t → devices ≡ flat_devices t → holds ≡ flat_holds t → instances ≡ flat_instances t → wholes ≡ [] → source ≡ source_of t.rules
+    → (let one : Circuit = record { nets = nets; devices = devices; holds = holds; instances = instances; wholes = wholes; source = source } in one) ≡ flat_circuit_of t
 unfolding flat_circuit_of
-assembled t nets devices holds instances wholes n d h i w = same_circuit _ _ _ _ _ _ _ _ _ _ n d h i w
+assembled t nets devices holds instances wholes source n d h i w s = same_circuit _ _ _ _ _ _ _ _ _ _ _ _ n d h i w s
 
 -- ---- the roles of ports count for no number
 

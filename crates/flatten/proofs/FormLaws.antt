@@ -1,6 +1,6 @@
 -- A flat circuit in whose way nothing stands is well formed.
-use Rattle.std.proofs.Common.{◌≡◌, ◌<◌, ◌≤◌, ◌+◌, ◌∷◌, ◌&&◌, [], ℕ, zero, suc, List, Bool, true, false, cond, nat_lt, All, map, length, Option, Some, None, refl, ap, sym, subst, ◌∙◌, arith, ltb-false}
-use Rattle.std.specs.Prelude.{bytes_eq, drop, find, option_map, position, unwrap_or}
+use Rattle.std.proofs.Common.{inl, inr, ◌≡◌, ◌<◌, ◌≤◌, ◌+◌, ◌∷◌, ◌&&◌, [], ℕ, zero, suc, List, Bool, true, false, cond, nat_lt, All, map, length, Option, Some, None, refl, ap, sym, subst, ◌∙◌, arith, ltb-false}
+use Rattle.std.specs.Prelude.{◌⊎◌, ◌==◌, bytes_eq, drop, find, option_map, position, unwrap_or}
 use Rattle.std.specs.List.{cons_option, filter_map}
 use Rattle.std.specs.Option.{option_or}
 use Rattle.std.proofs.lemmas.List.{length-map}
@@ -16,6 +16,7 @@ use Rattle.vrt_model.specs.Circuits.{IsCircuit, IsDevice, IsEnd, IsFlat, IsHold,
 use Rattle.vrt_model.specs.Comparison.{cell_at}
 use Rattle.vrt_model.specs.FlatCircuit.{Ruled, end_by, falls_on, flat_circuit_of, flat_device, flat_devices, flat_hold, flat_holds, flat_instance, flat_instances, flat_nets, instance_of, is_outermost, led_up, level_of, match_of, net_id, rule_on, rules_on, same_path}
 use Rattle.vrt_model.specs.Inputs.{AreRules, IsLevel}
+use Rattle.vrt_model.specs.Levels.{IsDeviceLevel, least_level, least_of, source_level, source_of, usual_level}
 use Rattle.vrt_model.specs.Lists.{Among, At}
 use Rattle.vrt_model.specs.Unrolled.{Place, Step, Top, all_places, net_at}
 use Rattle.vrt_model.specs.Unsupported.{Limit, carried, circuit_limits, too_large}
@@ -47,22 +48,51 @@ small limits l none m = by_found (find (λ (x : Limit). nat_lt x.limit x.count) 
 
 -- ---- levels
 
-found_level : {X : Type 0} (f : X → ℕ) (p : X → Bool) (xs : List X) → All (λ (x : X). IsLevel (f x)) xs → (n : ℕ) → option_map f (find p xs) ≡ Some n → IsLevel n
-found_level {X} f p xs all n e = by_found (find p xs) refl e where
-  by_found : (o : Option X) → find p xs ≡ o → option_map f o ≡ Some n → IsLevel n
+found_level : {X : Type 0} (rules : Rules) (f : X → ℕ) (p : X → Bool) (xs : List X) → All (λ (x : X). IsLevel rules (f x)) xs → (n : ℕ) → option_map f (find p xs) ≡ Some n → IsLevel rules n
+found_level {X} rules f p xs all n e = by_found (find p xs) refl e where
+  by_found : (o : Option X) → find p xs ≡ o → option_map f o ≡ Some n → IsLevel rules n
   by_found None h e = absurd (none-some n e)
-  by_found (Some x) h e = subst IsLevel (same_Some (f x) n e) (all_among (λ (y : X). IsLevel (f y)) xs x all (find_among p xs x h).0)
+  by_found (Some x) h e = subst (IsLevel rules) (same_Some (f x) n e) (all_among (λ (y : X). IsLevel rules (f y)) xs x all (find_among p xs x h).0)
 
-level_by : (a b : Option ℕ) → ((n : ℕ) → a ≡ Some n → IsLevel n) → ((n : ℕ) → b ≡ Some n → IsLevel n) → IsLevel (unwrap_or (option_or a b) 6)
-level_by (Some n) b first second = first n refl
-level_by None (Some n) first second = second n refl
-level_by None None first second = (omega arith, omega arith)
+level_by : (rules : Rules) (a b : Option ℕ) → ((n : ℕ) → a ≡ Some n → IsLevel rules n) → ((n : ℕ) → b ≡ Some n → IsLevel rules n) → IsLevel rules (unwrap_or (option_or a b) (usual_level rules))
+level_by rules (Some n) b first second = first n refl
+level_by rules None (Some n) first second = second n refl
+level_by rules None None first second = by_scale (rules.scale == 16) where
+  by_scale : (fine : Bool) → (cond fine 6 4 ≤ cond fine 10 6) × (cond fine 10 6 < cond fine 15 8)
+  by_scale true = (omega arith, omega arith)
+  by_scale false = (omega arith, omega arith)
 
-level_within : (rules : Rules) (name device model : List ℕ) → AreRules rules → IsLevel (level_of rules name device model)
+level_within : (rules : Rules) (name device model : List ℕ) → AreRules rules → IsLevel rules (level_of rules name device model)
 level_within rules name device model are =
-    level_by _ _
-    (found_level (λ (r : StrengthRule). r.level) (λ (r : StrengthRule). bytes_eq r.cell name && bytes_eq r.device device) rules.strengths are.strength_levels)
-    (found_level (λ (r : DeviceRule). r.level) (λ (r : DeviceRule). bytes_eq r.model model) rules.devices are.device_levels)
+    level_by rules _ _
+    (found_level rules (λ (r : StrengthRule). r.level) (λ (r : StrengthRule). bytes_eq r.cell name && bytes_eq r.device device) rules.strengths are.strength_levels)
+    (found_level rules (λ (r : DeviceRule). r.level) (λ (r : DeviceRule). bytes_eq r.model model) rules.devices are.device_levels)
+
+-- the levels of a circuit are those of its rules
+circuit_least : (c : Circuit) (rules : Rules) → c.source ≡ source_of rules → least_level c ≡ least_of rules
+circuit_least c rules e = ap (λ (s : ℕ). cond (s == 15) 6 4) e ∙ by_scale (rules.scale == 16) where
+  by_scale : (fine : Bool) → ◌≡◌ {A = ℕ} (cond (cond fine 15 8 == 15) 6 4) (cond fine 6 4)
+  by_scale true = refl
+  by_scale false = refl
+
+circuit_source : (c : Circuit) (rules : Rules) → c.source ≡ source_of rules → source_level c ≡ source_of rules
+circuit_source c rules e = ap (λ (s : ℕ). cond (s == 15) 15 8) e ∙ by_scale (rules.scale == 16) where
+  by_scale : (fine : Bool) → ◌≡◌ {A = ℕ} (cond (cond fine 15 8 == 15) 15 8) (cond fine 15 8)
+  by_scale true = refl
+  by_scale false = refl
+
+device_level_within : (c : Circuit) (rules : Rules) (level : ℕ) → c.source ≡ source_of rules → IsLevel rules level → IsDeviceLevel c level
+device_level_within c rules level e is =
+    let least = circuit_least c rules e in
+    let source = circuit_source c rules e in
+    let low = is.0 in
+    let high = is.1 in (omega (arith, least, low), omega (arith, source, high))
+
+source_either : (rules : Rules) → (source_of rules ≡ 8) ⊎ (source_of rules ≡ 15)
+source_either rules = by_scale (rules.scale == 16) where
+  by_scale : (fine : Bool) → (◌≡◌ {A = ℕ} (cond fine 15 8) 8) ⊎ (◌≡◌ {A = ℕ} (cond fine 15 8) 15)
+  by_scale true = inr refl
+  by_scale false = inl refl
 
 -- ---- holds
 
@@ -129,7 +159,7 @@ module _ (t : Top) where
 
   -- ---- the circuit
 
-  module _ (c : Circuit) (nets : c.nets ≡ flat_nets t) (instances : c.instances ≡ flat_instances t) where
+  module _ (c : Circuit) (source : c.source ≡ source_of t.rules) (nets : c.nets ≡ flat_nets t) (instances : c.instances ≡ flat_instances t) where
     in_circuit : (n : ℕ) → n < length (flat_nets t) → n < length c.nets
     in_circuit n lt = let size = ap length nets in omega (arith, lt, size)
 
@@ -151,7 +181,11 @@ module _ (t : Top) where
     hold_is : AreRules t.rules → (n : ℕ) (r : Ruled) → n < length c.nets → rule_on t n ≡ Some r → IsHold c (flat_hold t n r)
     hold_is ruled n r lt e = record {
       net = lt;
-      size = all_among (λ (h : HoldRule). (1 ≤ h.size) × (h.size ≤ 3)) t.rules.holds r.rule ruled.sizes (rule_among n r e);
+      size =
+          let is = all_among (λ (h : HoldRule). (1 ≤ h.size) × (h.size < least_of t.rules)) t.rules.holds r.rule ruled.sizes (rule_among n r e) in
+          let least = circuit_least c t.rules source in
+          let low = is.0 in
+          let high = is.1 in (low, omega (arith, least, high));
       end = end_is n r (match_of t.rules r.rule) lt;
     }
 
@@ -171,7 +205,7 @@ module _ (t : Top) where
           gate = within card.gate (1, refl);
           left = within card.drain (0, refl);
           right = within card.source (2, refl);
-          level = level_within t.rules (cell_at t.design at.cell).name card.name card.model ruled;
+          level = device_level_within c t.rules (level_of t.rules (cell_at t.design at.cell).name card.name card.model) source (level_within t.rules (cell_at t.design at.cell).name card.name card.model ruled);
         }
 
     devices_are : AreRules t.rules → All (IsDevice c) (flat_devices t)
@@ -198,12 +232,13 @@ module _ (t : Top) where
   pub formed : AreRules t.rules → too_large (circuit_limits t) ≡ None → IsCircuit (flat_circuit_of t)
   unfolding flat_circuit_of
   formed ruled none = record {
+    source = source_either t.rules;
     net_limit = small (circuit_limits t) (record { count = length (flat_nets t); limit = 20000 }) none (0, refl);
     device_limit = small (circuit_limits t) (record { count = length (flat_devices t); limit = 40000 }) none (1, refl);
     instance_limit = small (circuit_limits t) (record { count = length (flat_instances t); limit = 40000 }) none (2, refl);
-    devices = devices_are (flat_circuit_of t) refl refl ruled;
-    holds = holds_are (flat_circuit_of t) refl refl ruled;
-    instances = ports_are (flat_circuit_of t) refl refl;
+    devices = devices_are (flat_circuit_of t) refl refl refl ruled;
+    holds = holds_are (flat_circuit_of t) refl refl refl ruled;
+    instances = ports_are (flat_circuit_of t) refl refl refl;
     wholes = All-nil (IsWhole (flat_circuit_of t));
     one_hold = λ i j g h a b same.
         one_from 0 (length (flat_nets t)) i j g h (subst (λ (hs : List Hold). At hs i g) (all_from t 0 (flat_nets t)) a) (subst (λ (hs : List Hold). At hs j h) (all_from t 0 (flat_nets t)) b) same;

@@ -55,6 +55,7 @@ fn circuit_of(
         holds,
         instances,
         wholes: Seq::new(alloc),
+        source: rules.source_level(),
     })
 }
 

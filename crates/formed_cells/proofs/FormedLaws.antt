@@ -1,7 +1,7 @@
 -- The comparison of a supported cell is well formed.
 use Rattle.std.proofs.Common.{ℕ, ◌<◌, refl, subst, sym, ◌∙◌}
 use Rattle.std.specs.Prelude.{length}
-use Rattle.blif_flat.proofs.OneDriverLaws.{flat_good}
+use Rattle.blif_flat.proofs.NetworkLaws.{flat_good}
 use Rattle.flatten.proofs.CircuitLaws.{made}
 use Rattle.formed_cells.proofs.SupportedLaws.{IsFree, supported_is_free}
 use Rattle.formed_cells.specs.Formed.{AreRead, HasPairedSignals, IsFormed, IsModelInput, SupportedCellsAreFormed}

@@ -45,6 +45,7 @@ inverter : models_in (two_lines (codes "module inv(y,a);input a;") (codes "outpu
   covers = cover_of 2 F.Not (codes "a" ∷ []) (codes "y") ∷ [];
   latches = [];
   subs = [];
+  exdc = [];
 } ∷ []
 unfolding told_by tokens_from
 inverter = refl

@@ -2,6 +2,8 @@
 use Rattle.std.proofs.Common.{◌≡◌, ℕ, Bool, true, [], Option, Some, arith, subst, sym, refl, ◌∙◌, ap, inl, inr}
 use Rattle.known_nets.proofs.WiredLaws.{pin_of_whole}
 use Rattle.known_nets.specs.Wired.{IsWired}
+use Rattle.vrt_model.proofs.Scales.{least_below}
+use Rattle.vrt_model.specs.Levels.{source_level}
 use Rattle.vrt_model.proofs.Bounded.{response_inside}
 use Rattle.vrt_model.proofs.GatesGiven.{IsGiven}
 use Rattle.vrt_model.proofs.GivenNets.{clear_from_source, source_strength}
@@ -80,11 +82,11 @@ module _ (c : Circuit) (phase : Phase) (wired : IsWired c) where
       subst (IsPlain c) out.2 (wired.outputs out.0.whole out.0.pin from.0 from.1)
 
   -- no hold has the level of sources
-  hold_below : (held : ℕ → Bool) (s : State) (root : Root) → IsHoldRoot (view held s) root → root.level ≡ 8 → ⊥
-  hold_below held s root h top = let same = h.4 in let le = (all_among (IsHold c) c.holds h.1 wired.ranges.holds (h.0, h.2)).size.1 in omega (arith, top, same, le)
+  hold_below : (held : ℕ → Bool) (s : State) (root : Root) → IsHoldRoot (view held s) root → root.level ≡ source_level c → ⊥
+  hold_below held s root h top = let same = h.4 in let le = (all_among (IsHold c) c.holds h.1 wired.ranges.holds (h.0, h.2)).size.1 in let below = least_below c in omega (arith, top, same, le, below)
 
   -- a root of the source level at a net with a given value has the net's bit
-  pub given_root : (held : ℕ → Bool) (s : State) (n : ℕ) → IsGiven c n → (root : Root) → IsRoot (view held s) root → root.net ≡ n → root.level ≡ 8 → root.value ≡ s.reading n
+  pub given_root : (held : ℕ → Bool) (s : State) (n : ℕ) → IsGiven c n → (root : Root) → IsRoot (view held s) root → root.net ≡ n → root.level ≡ source_level c → root.value ≡ s.reading n
   given_root held s n given root r e top =
       elim r [
         | inl g ↦ g.4 ∙ ap s.reading e

@@ -12,6 +12,7 @@ use Rattle.known_nets.specs.Regions.{IsRegion, IsShutAt, has_amount, known_netwo
 use Rattle.known_nets.specs.Spreads.{HasArrived, IsKnownOn, IsSpread, before, given, given_amount, is_bit, level_of_end, onward}
 use Rattle.known_nets.specs.declared.spread.Spread.TheVariants.{Strength, Value}
 use Rattle.known_nets.specs.Wired.{IsWired}
+use Rattle.vrt_model.specs.Levels.{source_level}
 use Rattle.vrt_model.proofs.Clear.{HopFits, RootFits, arrives-reaches, clear-keeps}
 use Rattle.vrt_model.proofs.Decidable.{strength_at, strength_at_is}
 use Rattle.vrt_model.proofs.Filtered.{among_devices, device_among}
@@ -163,8 +164,8 @@ module _ (c : Circuit) (phase : Phase) (known : List (Option Bool)) (wired : IsW
   strength_came base clear n l before = inl (clear n)
   strength_came base clear n l (given m d on j other plain) =
       let s = source_of m (given_end m n d on.there j other) in
-      let top : AtLeast w 8 m = subst (AtLeast w 8) s.2 (arrives_root w (RootHas 8) (HopHas 8) s.0 s.1 (let is = s.3 in omega (arith, is))) in
-      inr (at_least_on w 8 m n d top (on_known d on) j)
+      let top : AtLeast w (source_level c) m = subst (AtLeast w (source_level c)) s.2 (arrives_root w (RootHas (source_level c)) (HopHas (source_level c)) s.0 s.1 (let is = s.3 in omega (arith, is))) in
+      inr (at_least_on w (source_level c) m n d top (on_known d on) j)
   strength_came base clear n l (onward {m} {amount} d arrived on j from plain) =
       elim (strength_came base clear m amount arrived) [
         | inl none ↦ inl (omega (arith, none))
@@ -212,13 +213,13 @@ module _ (c : Circuit) (phase : Phase) (known : List (Option Bool)) (wired : IsW
   module _ (s : ℕ → ℕ) (strong : (n : ℕ) → IsStrength w n (s n)) (levels : List ℕ) (agree : (n : ℕ) → inside n ≡ true → slice_index levels n ≡ s n) (v : Bool) where
     -- the level of a net inside is its strength
     inside_level : (n : ℕ) → inside n ≡ true → level_of_end c levels n ≡ s n
-    inside_level n ins = ap (λ (b : Bool). cond b (slice_index levels n) 8) (is_plain_is c n (region.plain n ins)) ∙ agree n ins
+    inside_level n ins = ap (λ (b : Bool). cond b (slice_index levels n) (source_level c)) (is_plain_is c n (region.plain n ins)) ∙ agree n ins
 
     -- so is that of a given net
     given_level : (m : ℕ) → IsGiven c m → is_plain_at c m ≡ false → level_of_end c levels m ≡ s m
     given_level m g other =
         let top = source_strength w in_levels m (source_of m g) in
-        ap (λ (b : Bool). cond b (slice_index levels m) 8) other ∙ one_strength w m 8 (s m) top (strong m)
+        ap (λ (b : Bool). cond b (slice_index levels m) (source_level c)) other ∙ one_strength w m (source_level c) (s m) top (strong m)
 
     -- a device that passes the value fits
     hop_fits : (m n : ℕ) (d : Device) → level_of_end c levels m ≡ s m → inside n ≡ true → (min (level_of_end c levels m) d.level == level_of_end c levels n) ≡ true → HopFits s m d n
@@ -239,12 +240,12 @@ module _ (c : Circuit) (phase : Phase) (known : List (Option Bool)) (wired : IsW
         let g = given_end m n d on.there j other in
         let is = given_level m g other in
         let top = source_strength w in_levels m (source_of m g) in
-        let passes = passes_by (min (level_of_end c levels m) d.level == level_of_end c levels n) (given_amount (Value v) known m) lt in
+        let passes = passes_by (min (level_of_end c levels m) d.level == level_of_end c levels n) (given_amount (Value v) c known m) lt in
         let bit = passes_by (is_bit v (known_at known m)) 1 passes.1 in
-        let root : Root = record { net = m; level = 8; value = reading_of known m } in
+        let root : Root = record { net = m; level = source_level c; value = reading_of known m } in
         let start : IsRoot w root = inl (g.0, g.1, g.2, refl, refl) in
         arrives_on w (RootFits s v) (HopFits s) m n d
-        (arrives_root w (RootFits s v) (HopFits s) root start (one_strength w m 8 (s m) top (strong m), bit_read v (known_at known m) bit.0))
+        (arrives_root w (RootFits s v) (HopFits s) root start (one_strength w m (source_level c) (s m) top (strong m), bit_read v (known_at known m) bit.0))
         (on_known d on) j (hop_fits m n d is ins passes.0)
     value_came base clear n l (onward {m} {amount} d arrived on j from plain) ins lt =
         let there = region.closed n m d ins on (turned d m n j) (plain_is c m from) in
@@ -256,7 +257,7 @@ module _ (c : Circuit) (phase : Phase) (known : List (Option Bool)) (wired : IsW
     root_value : (root : Root) (m : ℕ) (u : Bool) → IsRoot w root → IsStrength w root.net root.level → root.value ≡ v → root.net ≡ m → IsSource w m → IsFixed c phase m u → is_bit v (known_at known m) ≡ true
     root_value root m u r clear is e from f =
         let k = has m u f in
-        let top : root.level ≡ 8 = one_strength w root.net root.level 8 clear (subst (λ (x : ℕ). IsStrength w x 8) (sym e) (source_strength w in_levels m from)) in
+        let top : root.level ≡ source_level c = one_strength w root.net root.level (source_level c) clear (subst (λ (x : ℕ). IsStrength w x (source_level c)) (sym e) (source_strength w in_levels m from)) in
         let read : root.value ≡ reading_of known m = given_root c phase wired (λ k. false) state m (f.0, f.1, fixed_given phase f.0.kind u f.2) root r e top in
         let same : u ≡ v = sym (ap (λ (o : Option Bool). unwrap_or o false) k) ∙ (sym read ∙ is) in
         ap (is_bit v) (k ∙ ap (λ (b : Bool). Some b) same) ∙ bit_here v
@@ -303,8 +304,8 @@ module _ (c : Circuit) (phase : Phase) (known : List (Option Bool)) (wired : IsW
       → (n : ℕ) → inside n ≡ true → (has_amount table n ≡ true) ↔ Reaches (known_network c known) n v
   region_reached risen levels nets table v all strengths all_nets values n ins =
       let finite = network_finite c true (λ k. false) state wired.ranges in
-      let s = strength_at (known_network c known) (length c.nets) 8 finite in
-      let strong = strength_at_is (known_network c known) (length c.nets) 8 finite in
+      let s = strength_at (known_network c known) (length c.nets) (source_level c) finite in
+      let strong = strength_at_is (known_network c known) (length c.nets) (source_level c) finite in
       let agree : (m : ℕ) → inside m ≡ true → slice_index levels m ≡ s m =
       λ m i. one_strength w m (slice_index levels m) (s m) (region_strength risen levels all strengths m i) (strong m) in (
         λ e. arrives-reaches (known_network c known) s strong v n

@@ -196,7 +196,7 @@ module _ (spread : Spread) (c : Circuit) (known : List (Option Bool)) (levels : 
 
   -- from a given net
   pub gone_back : (amount m n g a : ℕ) (d : Device) (old new p q : List ℕ) → IsKnownOn c known d → Joins d m n → is_plain_at c m ≡ true → is_plain_at c n ≡ false
-      → g ≡ given_amount spread known n → a ≡ passed spread c levels g n d m → IsRaised m a old new p q → HasGone spread c known levels amount m old new p q
+      → g ≡ given_amount spread c known n → a ≡ passed spread c levels g n d m → IsRaised m a old new p q → HasGone spread c known levels amount m old new p q
   gone_back amount m n g a d old new p q on joins to from amount_is is raised =
       by_raise amount m m a old new p q to
       (λ base own. subst (HasArrived spread c known levels base m) (sym (is ∙ ap (λ (x : ℕ). passed spread c levels x n d m) amount_is)) (given n d on (turned d m n joins) from to)) raised
@@ -209,7 +209,7 @@ module _ (spread : Spread) (c : Circuit) (known : List (Option Bool)) (levels : 
   }
 
   pub crossed_back : (amount m n g a : ℕ) (d : Device) (old new p q : List ℕ) → length old ≡ length c.nets → is_plain_at c m ≡ true → is_plain_at c n ≡ false
-      → g ≡ given_amount spread known n → a ≡ passed spread c levels g n d m → IsRaised m a old new p q → HasCrossed spread c known levels new amount m d n
+      → g ≡ given_amount spread c known n → a ≡ passed spread c levels g n d m → IsRaised m a old new p q → HasCrossed spread c known levels new amount m d n
   crossed_back amount m n g a d old new p q size plain other amount_is is raised = record {
     forth = λ e. absurd (false≢true (sym other ∙ e));
     back = λ e.

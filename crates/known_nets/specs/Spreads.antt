@@ -7,6 +7,7 @@ use Rattle.known_nets.specs.declared.spread.Spread.TheVariants.{Joined, Strength
 use Rattle.known_nets.specs.declared.amounts.Amounts.{Amounts}
 use Rattle.known_nets.specs.declared.spread.Spread.{Spread}
 use Rattle.known_nets.specs.declared.spread.Spreading.{Spreading}
+use Rattle.vrt_model.specs.Levels.{source_level}
 use Rattle.vrt_model.specs.Lists.{At, Among}
 use Rattle.vrt_model.specs.Path.{Joins}
 use Rattle.vrt_model.specs.Reading.{is_in}
@@ -27,13 +28,13 @@ is_bit false (Some u) = not u
 
 -- the level of a net: that of the table where it is plain, and else the source level
 abbrev pub level_of_end : Circuit → List ℕ → ℕ → ℕ
-level_of_end c levels n = cond (is_plain_at c n) (slice_index levels n) 8
+level_of_end c levels n = cond (is_plain_at c n) (slice_index levels n) (source_level c)
 
 -- the amount at a net that is not plain
-abbrev pub given_amount : Spread → List (Option Bool) → ℕ → ℕ
-given_amount Joined known n = 0
-given_amount Strength known n = 8
-given_amount (Value v) known n = cond (is_bit v (known_at known n)) 1 0
+abbrev pub given_amount : Spread → Circuit → List (Option Bool) → ℕ → ℕ
+given_amount Joined c known n = 0
+given_amount Strength c known n = source_level c
+given_amount (Value v) c known n = cond (is_bit v (known_at known n)) 1 0
 
 -- what passes over a device from one net to another: the whole; the lesser of the strength and the device's level; the
 -- value where no stronger signal blocks it
@@ -48,7 +49,7 @@ pub data HasArrived (spread : Spread) (c : Circuit) (known : List (Option Bool))
   given :
       {n : ℕ} (m : ℕ) (d : Device)
       → IsKnownOn c known d → Joins d m n → is_plain_at c m ≡ false → is_plain_at c n ≡ true
-      → HasArrived spread c known levels base n (passed spread c levels (given_amount spread known m) m d n)
+      → HasArrived spread c known levels base n (passed spread c levels (given_amount spread c known m) m d n)
   onward :
       {m n amount : ℕ} (d : Device)
       → HasArrived spread c known levels base m amount
@@ -58,7 +59,7 @@ pub data HasArrived (spread : Spread) (c : Circuit) (known : List (Option Bool))
 -- what a device passes between a net with an amount and the net at its other end has come
 pub record HasCrossed (spread : Spread) (c : Circuit) (known : List (Option Bool)) (levels table : List ℕ) (amount m : ℕ) (d : Device) (n : ℕ) : Type 0 where
   pub forth : is_plain_at c n ≡ true → passed spread c levels amount m d n ≤ slice_index table n
-  pub back : is_plain_at c n ≡ false → passed spread c levels (given_amount spread known n) n d m ≤ slice_index table m
+  pub back : is_plain_at c n ≡ false → passed spread c levels (given_amount spread c known n) n d m ≤ slice_index table m
 
 -- what passes from a net with an amount, and to it from given nets, has come
 abbrev pub HasPassedAll : Spread → Circuit → List (Option Bool) → List ℕ → List ℕ → ℕ → ℕ → Type 0

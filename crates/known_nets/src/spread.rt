@@ -15,9 +15,6 @@ use crate::conducting::{conduction, is_plain, known_bit};
 use crate::incidence::{Incidence, other_end};
 use vrt_model::{Circuit, Device, NoMemory, Seq};
 
-/// The level of supplies, inputs and clock ports.
-const SOURCE_LEVEL: u8 = 8;
-
 /// What spreads, as an amount at each net.
 #[derive(Clone, Copy)]
 pub(crate) enum Spread {
@@ -51,17 +48,17 @@ fn level_at(circuit: &Circuit, levels: &[u8], net: usize) -> u8
     if is_plain(circuit, net) {
         amount_at(levels, net)
     } else {
-        SOURCE_LEVEL
+        circuit.source_level()
     }
 }
 
 /// The amount at a net that is not plain.
-fn given_amount(spread: Spread, known: &[Option<bool>], net: usize) -> u8
-    ensures { result ≡ given_amount spread known.now net }
+fn given_amount(spread: Spread, circuit: &Circuit, known: &[Option<bool>], net: usize) -> u8
+    ensures { result ≡ given_amount spread circuit.now known.now net }
 {
     match spread {
         Spread::Joined => 0,
-        Spread::Strength => SOURCE_LEVEL,
+        Spread::Strength => circuit.source_level(),
         Spread::Value(value) => match known_bit(known, net) {
             Some(bit) => { if bit == value { 1 } else { 0 } }
             None => 0,
@@ -127,7 +124,7 @@ fn cross(
         let forth = passed(over, amount, net, device, other);
         amounts.raise(other, forth)
     } else {
-        let given = given_amount(over.spread, over.known, other);
+        let given = given_amount(over.spread, over.circuit, over.known, other);
         let back = passed(over, given, other, device, net);
         amounts.raise(net, back)
     }

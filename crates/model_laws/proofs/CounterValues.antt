@@ -2,10 +2,10 @@
 use Rattle.std.specs.Prelude.{◌≡◌, ℕ, Bool, true, false, List, [], ◌∷◌, map, Some, None, codes, refl}
 use Rattle.model_laws.specs.Cells.{buf_cell, cnt_cell, cnt_model, cnt_rules, dff_cell, inv_cell, inv_model, nand_model}
 use Rattle.vrt_model.proofs.Cells.{base, cover, design_of}
-use Rattle.vrt_model.specs.Budget.{work_of}
+use Rattle.vrt_model.specs.Budget.{work, work_of}
 use Rattle.vrt_model.specs.Comparison.{Comparison}
 use Rattle.vrt_model.specs.Covers.{cover_bit}
-use Rattle.vrt_model.specs.FlatBlif.{all_models, flat_model_of, signals_of}
+use Rattle.vrt_model.specs.FlatBlif.{all_models, flat_model_of, network_names, signals_of, unrolled_of}
 use Rattle.vrt_model.specs.FlatCircuit.{flat_circuit_of}
 use Rattle.vrt_model.specs.Groups.{groups_of}
 use Rattle.vrt_model.specs.Held.{setting_of, variable_names}
@@ -39,7 +39,7 @@ inv_pairs : paired_model inv_design inv_blif base 0 ≡ Model 0
 inv_pairs = refl
 
 inv_fits : why_paired inv_design inv_blif base 0 0 ≡ None
-unfolding flat_circuit_of all_places net_at own_nets global_nets flat_model_of all_models signals_of pairing_of ports_fault groups_of variables_of
+unfolding flat_circuit_of all_places net_at own_nets global_nets flat_model_of unrolled_of network_names all_models signals_of pairing_of ports_fault groups_of variables_of
 inv_fits = refl
 
 inv_circuit : inv.circuit ≡ record {
@@ -51,8 +51,9 @@ inv_circuit : inv.circuit ≡ record {
   holds = [];
   instances = [];
   wholes = [];
+  source = 8;
 }
-unfolding flat_circuit_of all_places net_at own_nets global_nets flat_model_of all_models signals_of pairing_of groups_of
+unfolding flat_circuit_of all_places net_at own_nets global_nets flat_model_of unrolled_of network_names all_models signals_of pairing_of groups_of
 inv_circuit = refl
 
 -- two inverters in a row: a path name for the inner instance's devices, and no inner net
@@ -60,15 +61,15 @@ abbrev buf : Comparison
 buf = comparison_of (design_of (inv_cell ∷ buf_cell ∷ [])) inv_blif base 1 0
 
 buf_nets : map (λ (n : FlatNet). n.name) buf.circuit.nets ≡ codes "gnd" ∷ codes "vdd" ∷ codes "a" ∷ codes "y" ∷ codes "m" ∷ []
-unfolding flat_circuit_of all_places net_at own_nets global_nets flat_model_of all_models signals_of pairing_of
+unfolding flat_circuit_of all_places net_at own_nets global_nets flat_model_of unrolled_of network_names all_models signals_of pairing_of
 buf_nets = refl
 
 buf_devices : map (λ (d : Device). d.name) buf.circuit.devices ≡ codes "xi0/m1" ∷ codes "xi0/m2" ∷ codes "xi1/m1" ∷ codes "xi1/m2" ∷ []
-unfolding flat_circuit_of all_places net_at own_nets global_nets flat_model_of all_models signals_of pairing_of
+unfolding flat_circuit_of all_places net_at own_nets global_nets flat_model_of unrolled_of network_names all_models signals_of pairing_of
 buf_devices = refl
 
 buf_gates : map (λ (d : Device). d.gate.0) buf.circuit.devices ≡ 2 ∷ 2 ∷ 4 ∷ 4 ∷ []
-unfolding flat_circuit_of all_places net_at own_nets global_nets flat_model_of all_models signals_of pairing_of
+unfolding flat_circuit_of all_places net_at own_nets global_nets flat_model_of unrolled_of network_names all_models signals_of pairing_of
 buf_gates = refl
 
 -- a counter: holds inside an instance, whose match lines lead up to the checked cell's latch
@@ -82,42 +83,42 @@ abbrev cnt : Comparison
 cnt = comparison_of cnt_design cnt_blif cnt_rules 2 1
 
 cnt_fits : why_paired cnt_design cnt_blif cnt_rules 2 1 ≡ None
-unfolding flat_circuit_of all_places net_at own_nets global_nets flat_model_of all_models signals_of pairing_of ports_fault groups_of variables_of
+unfolding flat_circuit_of all_places net_at own_nets global_nets flat_model_of unrolled_of network_names all_models signals_of pairing_of ports_fault groups_of variables_of
 cnt_fits = refl
 
 cnt_nets : map (λ (n : FlatNet). n.name) cnt.circuit.nets
     ≡ codes "gnd" ∷ codes "vdd" ∷ codes "clk" ∷ codes "q" ∷ codes "qn" ∷ codes "x1/cb" ∷ codes "x1/l1" ∷ codes "x1/n1" ∷ codes "x1/l2" ∷ []
-unfolding flat_circuit_of all_places net_at own_nets global_nets flat_model_of all_models signals_of pairing_of
+unfolding flat_circuit_of all_places net_at own_nets global_nets flat_model_of unrolled_of network_names all_models signals_of pairing_of
 cnt_nets = refl
 
 cnt_holds : cnt.circuit.holds
     ≡ record { net = record { 0 = 6 }; size = 1; end = Latch None (codes "q#m"); inverted = false; enters = [] }
     ∷ record { net = record { 0 = 8 }; size = 1; end = Latch None (codes "q"); inverted = true; enters = [] } ∷ []
-unfolding flat_circuit_of all_places net_at own_nets global_nets flat_model_of all_models signals_of pairing_of
+unfolding flat_circuit_of all_places net_at own_nets global_nets flat_model_of unrolled_of network_names all_models signals_of pairing_of
 cnt_holds = refl
 
 cnt_instances : cnt.circuit.instances
     ≡ record { path = codes "x1"; cell = 1; ports = record { 0 = 4 } ∷ record { 0 = 2 } ∷ record { 0 = 3 } ∷ [] }
     ∷ record { path = codes "x2"; cell = 0; ports = record { 0 = 3 } ∷ record { 0 = 4 } ∷ [] } ∷ []
-unfolding flat_circuit_of all_places net_at own_nets global_nets flat_model_of all_models signals_of pairing_of
+unfolding flat_circuit_of all_places net_at own_nets global_nets flat_model_of unrolled_of network_names all_models signals_of pairing_of
 cnt_instances = refl
 
 cnt_signals : cnt.model.signals ≡ codes "clk" ∷ codes "q" ∷ codes "qn" ∷ []
-unfolding flat_model_of all_models signals_of
+unfolding flat_model_of unrolled_of network_names all_models signals_of
 cnt_signals = refl
 
 cnt_groups : cnt.groups
     ≡ record { members = record { hold = 0; inverted = false } ∷ []; element = Some 0 } ∷ record { members = record { hold = 1; inverted = true } ∷ []; element = Some 1 } ∷ []
-unfolding flat_circuit_of all_places net_at own_nets global_nets flat_model_of all_models signals_of pairing_of groups_of
+unfolding flat_circuit_of all_places net_at own_nets global_nets flat_model_of unrolled_of network_names all_models signals_of pairing_of groups_of
 cnt_groups = refl
 
 cnt_variables : variable_names cnt 0 ≡ codes "q#m" ∷ codes "q" ∷ []
-unfolding flat_circuit_of all_places net_at own_nets global_nets flat_model_of all_models signals_of pairing_of groups_of variables_of
+unfolding flat_circuit_of all_places net_at own_nets global_nets flat_model_of unrolled_of network_names all_models signals_of pairing_of groups_of variables_of
 cnt_variables = refl
 
 -- the second hold has the inverse of its element
 cnt_held : (setting_of cnt 0 (true ∷ true ∷ [])).held 1 ≡ false
-unfolding flat_circuit_of all_places net_at own_nets global_nets flat_model_of all_models signals_of pairing_of groups_of variables_of setting_of
+unfolding flat_circuit_of all_places net_at own_nets global_nets flat_model_of unrolled_of network_names all_models signals_of pairing_of groups_of variables_of setting_of
 cnt_held = refl
 
 -- rows of the off-set: the signal is 1 where none fits
@@ -129,12 +130,16 @@ bits_of bits n = bit_at bits n
 
 nand_bits : map (λ bits. map (cover_bit (bits_of bits)) nand_flat.covers) ((false ∷ false ∷ []) ∷ (false ∷ true ∷ []) ∷ (true ∷ false ∷ []) ∷ (true ∷ true ∷ []) ∷ [])
     ≡ (true ∷ []) ∷ (true ∷ []) ∷ (true ∷ []) ∷ (false ∷ []) ∷ []
-unfolding flat_model_of all_models signals_of
+unfolding flat_model_of unrolled_of network_names all_models signals_of
 nand_bits = refl
+
+-- the work of a phase of a bus of pairs
+pairs_work : work 54 35 51 0 ≡ 4955200
+pairs_work = refl
 
 -- the work of an inverter's phase
 inv_work : work_of inv inv_blif ≡ 35300
-unfolding flat_circuit_of all_places net_at own_nets global_nets flat_model_of all_models signals_of pairing_of
+unfolding flat_circuit_of all_places net_at own_nets global_nets flat_model_of unrolled_of network_names all_models signals_of pairing_of
 inv_work = refl
 
 -- the cells in order, and the rules of the counter name what is there

@@ -5,7 +5,7 @@ use Rattle.model_laws.specs.Cells.{clocked, inv_cell, inv_model, instance, uprig
 use Rattle.vrt_model.proofs.Cells.{base, cover, design_of, gnd, model_of, n_device, p_device, vdd}
 use Rattle.vrt_model.specs.Comparison.{Comparison, is_observed}
 use Rattle.vrt_model.specs.Constraints.{meets}
-use Rattle.vrt_model.specs.FlatBlif.{all_models, flat_model_of, signals_of}
+use Rattle.vrt_model.specs.FlatBlif.{all_models, flat_model_of, network_names, signals_of, unrolled_of}
 use Rattle.vrt_model.specs.FlatCircuit.{flat_circuit_of}
 use Rattle.vrt_model.specs.Groups.{groups_of}
 use Rattle.vrt_model.specs.Held.{setting_of, variable_names}
@@ -59,33 +59,33 @@ abbrev dom : Comparison
 dom = comparison_of (design_of (dom_cell ∷ [])) dom_blif dom_rules 0 0
 
 dom_fits : why_paired (design_of (dom_cell ∷ [])) dom_blif dom_rules 0 0 ≡ None
-unfolding flat_circuit_of all_places net_at own_nets global_nets flat_model_of all_models signals_of pairing_of ports_fault groups_of variables_of
+unfolding flat_circuit_of all_places net_at own_nets global_nets flat_model_of unrolled_of network_names all_models signals_of pairing_of ports_fault groups_of variables_of
 dom_fits = refl
 
 dom_keepers : map (λ (d : Device). d.keeper) dom.circuit.devices ≡ false ∷ false ∷ false ∷ false ∷ false ∷ false ∷ true ∷ []
-unfolding flat_circuit_of all_places net_at own_nets global_nets flat_model_of all_models signals_of pairing_of
+unfolding flat_circuit_of all_places net_at own_nets global_nets flat_model_of unrolled_of network_names all_models signals_of pairing_of
 dom_keepers = refl
 
 -- in phase pre the held net is a variable, in phase eval it has its constant
 dom_variables_pre : variable_names dom 0 ≡ codes "a" ∷ codes "b" ∷ codes "d" ∷ []
-unfolding flat_circuit_of all_places net_at own_nets global_nets flat_model_of all_models signals_of pairing_of groups_of variables_of
+unfolding flat_circuit_of all_places net_at own_nets global_nets flat_model_of unrolled_of network_names all_models signals_of pairing_of groups_of variables_of
 dom_variables_pre = refl
 
 dom_variables_eval : variable_names dom 1 ≡ codes "a" ∷ codes "b" ∷ []
-unfolding flat_circuit_of all_places net_at own_nets global_nets flat_model_of all_models signals_of pairing_of groups_of variables_of
+unfolding flat_circuit_of all_places net_at own_nets global_nets flat_model_of unrolled_of network_names all_models signals_of pairing_of groups_of variables_of
 dom_variables_eval = refl
 
 dom_held : (setting_of dom 1 (false ∷ false ∷ [])).held 0 ≡ true
-unfolding flat_circuit_of all_places net_at own_nets global_nets flat_model_of all_models signals_of pairing_of groups_of variables_of setting_of
+unfolding flat_circuit_of all_places net_at own_nets global_nets flat_model_of unrolled_of network_names all_models signals_of pairing_of groups_of variables_of setting_of
 dom_held = refl
 
 dom_meets : meets dom 1 (setting_of dom 1 (false ∷ false ∷ [])) ≡ true
-unfolding flat_circuit_of all_places net_at own_nets global_nets flat_model_of all_models signals_of pairing_of groups_of variables_of setting_of
+unfolding flat_circuit_of all_places net_at own_nets global_nets flat_model_of unrolled_of network_names all_models signals_of pairing_of groups_of variables_of setting_of
 dom_meets = refl
 
 -- the output is observed in phase eval alone, but it is the keeper's gate too
 dom_observed : map (is_observed dom 0) (0 ∷ 1 ∷ 2 ∷ 3 ∷ 4 ∷ 5 ∷ 6 ∷ 7 ∷ 8 ∷ []) ≡ false ∷ false ∷ true ∷ true ∷ true ∷ true ∷ true ∷ false ∷ false ∷ []
-unfolding flat_circuit_of all_places net_at own_nets global_nets flat_model_of all_models signals_of pairing_of groups_of is_observed
+unfolding flat_circuit_of all_places net_at own_nets global_nets flat_model_of unrolled_of network_names all_models signals_of pairing_of groups_of is_observed
 dom_observed = refl
 
 -- without its match line a latch is unmatched
@@ -114,7 +114,7 @@ lat_blif = record {
 }
 
 lat_unmatched : why_paired (design_of (lat_cell ∷ [])) lat_blif lat_rules 0 0 ≡ Some (Unmatched (codes "q"))
-unfolding flat_circuit_of all_places net_at own_nets global_nets flat_model_of all_models signals_of pairing_of ports_fault groups_of variables_of
+unfolding flat_circuit_of all_places net_at own_nets global_nets flat_model_of unrolled_of network_names all_models signals_of pairing_of ports_fault groups_of variables_of
 lat_unmatched = refl
 
 -- an instance that ties its supply port to the other supply
@@ -132,7 +132,7 @@ abbrev bad_blif : Blif
 bad_blif = record { models = record inv_model { name = codes "bad" } ∷ [] }
 
 bad_tie : why_paired bad_design bad_blif base 1 0 ≡ Some (SupplyTie (codes "x1"))
-unfolding flat_circuit_of all_places net_at own_nets global_nets flat_model_of all_models signals_of pairing_of ports_fault groups_of variables_of
+unfolding flat_circuit_of all_places net_at own_nets global_nets flat_model_of unrolled_of network_names all_models signals_of pairing_of ports_fault groups_of variables_of
 bad_tie = refl
 
 -- no model
@@ -141,12 +141,12 @@ no_model = refl
 
 -- a second output of the model that no port pairs with
 ports_left : why_paired (design_of (inv_cell ∷ [])) (record { models = record inv_model { outputs = codes "y" ∷ codes "q" ∷ [] } ∷ [] }) base 0 0 ≡ Some (Ports (codes "q"))
-unfolding flat_circuit_of all_places net_at own_nets global_nets flat_model_of all_models signals_of pairing_of ports_fault groups_of variables_of
+unfolding flat_circuit_of all_places net_at own_nets global_nets flat_model_of unrolled_of network_names all_models signals_of pairing_of ports_fault groups_of variables_of
 ports_left = refl
 
 -- a device model without a rule
 no_kind : why_paired (design_of (inv_cell ∷ [])) (record { models = inv_model ∷ [] }) (record base { devices = [] }) 0 0 ≡ Some (DeviceModel (codes "p"))
-unfolding flat_circuit_of all_places net_at own_nets global_nets flat_model_of all_models signals_of pairing_of ports_fault groups_of variables_of
+unfolding flat_circuit_of all_places net_at own_nets global_nets flat_model_of unrolled_of network_names all_models signals_of pairing_of ports_fault groups_of variables_of
 no_kind = refl
 
 -- a global net is one net in all cells, after the ports
@@ -178,12 +178,12 @@ abbrev glo : Comparison
 glo = comparison_of glo_design glo_blif base 2 0
 
 glo_nets : map (λ (n : FlatNet). n.name) glo.circuit.nets ≡ codes "gnd" ∷ codes "vdd" ∷ codes "a" ∷ codes "b" ∷ codes "y" ∷ codes "z" ∷ codes "g" ∷ []
-unfolding flat_circuit_of all_places net_at own_nets global_nets flat_model_of all_models signals_of pairing_of
+unfolding flat_circuit_of all_places net_at own_nets global_nets flat_model_of unrolled_of network_names all_models signals_of pairing_of
 glo_nets = refl
 
 glo_paths : map (λ (i : FlatInstance). i.path) glo.circuit.instances
     ≡ codes "x1" ∷ codes "x1/x1" ∷ codes "x1/x2" ∷ codes "x2" ∷ codes "x2/x1" ∷ codes "x2/x2" ∷ []
-unfolding flat_circuit_of all_places net_at own_nets global_nets flat_model_of all_models signals_of pairing_of
+unfolding flat_circuit_of all_places net_at own_nets global_nets flat_model_of unrolled_of network_names all_models signals_of pairing_of
 glo_paths = refl
 
 -- a sub-model, whose signals are those around it
@@ -195,11 +195,11 @@ over_sub = record {
 }
 
 sub_signals : (flat_model_of over_sub 0).signals ≡ codes "a" ∷ codes "y" ∷ codes "0/t" ∷ []
-unfolding flat_model_of all_models signals_of digits
+unfolding flat_model_of unrolled_of network_names all_models signals_of digits
 sub_signals = refl
 
 sub_outputs : map (λ (c : Cover). c.output) (flat_model_of over_sub 0).covers ≡ 2 ∷ 1 ∷ []
-unfolding flat_model_of all_models signals_of
+unfolding flat_model_of unrolled_of network_names all_models signals_of
 sub_outputs = refl
 
 -- the line of a verdict

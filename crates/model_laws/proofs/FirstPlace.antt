@@ -10,7 +10,7 @@ use Rattle.vrt_model.specs.Assignment.{Assignment}
 use Rattle.vrt_model.specs.Comparison.{Comparison, is_observed, phase_at}
 use Rattle.vrt_model.specs.Constraints.{Meets}
 use Rattle.vrt_model.specs.Faults.{Assigns, Solves, Stands}
-use Rattle.vrt_model.specs.FlatBlif.{all_models, flat_model_of, signals_of}
+use Rattle.vrt_model.specs.FlatBlif.{all_models, flat_model_of, network_names, signals_of, unrolled_of}
 use Rattle.vrt_model.specs.FlatCircuit.{flat_circuit_of}
 use Rattle.vrt_model.specs.Groups.{groups_of}
 use Rattle.vrt_model.specs.Held.{setting_of}
@@ -41,7 +41,7 @@ use Rattle.vrt_model.specs.declared.verdict.FaultKind.{FaultKind}
 use Rattle.vrt_model.specs.declared.verdict.FaultKind.TheVariants.{Fight as FightFault, FightKept, Float as FloatFault, Unsettled, Constraint, Differs, Next, Apart, Enter}
 
 abbrev circuit : Circuit
-circuit = record { nets = the_nets; devices = the_device ∷ []; holds = []; instances = []; wholes = [] }
+circuit = record { nets = the_nets; devices = the_device ∷ []; holds = []; instances = []; wholes = []; source = 8 }
 
 abbrev cell : Comparison
 cell = record {
@@ -57,12 +57,13 @@ cell = record {
     outputs = 0 ∷ [];
     covers = record { inputs = []; output = 0; on = true; rows = [] ∷ [] } ∷ [];
     latches = [];
+    dontcares = [];
   };
   groups = [];
 }
 
 cell_is : comparison_of design blif base 0 0 ≡ cell
-unfolding flat_circuit_of all_places net_at own_nets global_nets flat_model_of all_models signals_of pairing_of groups_of
+unfolding flat_circuit_of all_places net_at own_nets global_nets flat_model_of unrolled_of network_names all_models signals_of pairing_of groups_of
 cell_is = refl
 
 -- ---- the observed nets are the gate and the output
@@ -201,7 +202,7 @@ abbrev found : Finding
 found = record { phase = 0; kind = Differs; at = 0; bits = [] }
 
 it_stands : Stands cell 0 setting the_solution ones Differs 0
-it_stands = (2, Some true, (record { place = 0; name = codes "y"; net = 2; role = Output 0 }, 0, refl, refl, refl, refl, refl), λ e. false≢true (same_Some false true e))
+it_stands = (2, Some true, (record { place = 0; name = codes "y"; net = 2; role = Output 0 }, 0, refl, refl, refl, refl, refl, refl), λ e. false≢true (same_Some false true e))
 
 it_meets : Meets cell 0 []
 unfolding variables_of
@@ -389,7 +390,7 @@ described = record {
   place = refl;
   values = λ a g solves assigns. inl (
     2,
-    (record { place = 0; name = codes "y"; net = 2; role = Output 0 }, 0, refl, refl, refl, refl, ap (λ (v : Bool). Some v) (sym (assigned g assigns))),
+    (record { place = 0; name = codes "y"; net = 2; role = Output 0 }, 0, refl, refl, refl, refl, refl, ap (λ (v : Bool). Some v) (sym (assigned g assigns))),
     sym (output_bit a solves),
   );
   names = refl;
@@ -432,7 +433,7 @@ acyclic (suc p) early = absurd (not_early early)
     not_early h = omega (arith, h)
 
 early_none : why_paired design blif base 0 0 ≡ None
-unfolding flat_circuit_of all_places net_at own_nets global_nets flat_model_of all_models signals_of pairing_of ports_fault groups_of variables_of
+unfolding flat_circuit_of all_places net_at own_nets global_nets flat_model_of unrolled_of network_names all_models signals_of pairing_of ports_fault groups_of variables_of
 early_none = refl
 
 supported : IsSupported design blif base 0 0

@@ -7,7 +7,7 @@ use Rattle.vrt_model.specs.Budget.{constraints_size}
 use Rattle.vrt_model.specs.Comparison.{Comparison, is_observed}
 use Rattle.vrt_model.specs.Expressions.{value_by}
 use Rattle.vrt_model.specs.Faults.{port_bit}
-use Rattle.vrt_model.specs.FlatBlif.{all_models, flat_model_of, signals_of}
+use Rattle.vrt_model.specs.FlatBlif.{all_models, flat_model_of, network_names, signals_of, unrolled_of}
 use Rattle.vrt_model.specs.FlatCircuit.{flat_circuit_of}
 use Rattle.vrt_model.specs.Groups.{groups_of}
 use Rattle.vrt_model.specs.Held.{setting_of, variable_names}
@@ -73,29 +73,29 @@ abbrev par : Comparison
 par = comparison_of two_design par_blif two_rules 1 1
 
 par_fits : why_paired two_design par_blif two_rules 1 1 ≡ None
-unfolding flat_circuit_of all_places net_at own_nets global_nets flat_model_of all_models signals_of pairing_of ports_fault groups_of variables_of
+unfolding flat_circuit_of all_places net_at own_nets global_nets flat_model_of unrolled_of network_names all_models signals_of pairing_of ports_fault groups_of variables_of
 par_fits = refl
 
 par_groups : par.groups ≡ record { members = record { hold = 0; inverted = false } ∷ record { hold = 1; inverted = false } ∷ []; element = None } ∷ []
-unfolding flat_circuit_of all_places net_at own_nets global_nets flat_model_of all_models signals_of pairing_of groups_of
+unfolding flat_circuit_of all_places net_at own_nets global_nets flat_model_of unrolled_of network_names all_models signals_of pairing_of groups_of
 par_groups = refl
 
 par_ends : map (λ (h : Hold). h.end) par.circuit.holds ≡ Latch (Some 0) (codes "q") ∷ Latch (Some 0) (codes "q") ∷ []
-unfolding flat_circuit_of all_places net_at own_nets global_nets flat_model_of all_models signals_of pairing_of
+unfolding flat_circuit_of all_places net_at own_nets global_nets flat_model_of unrolled_of network_names all_models signals_of pairing_of
 par_ends = refl
 
 par_variables : variable_names par 1 ≡ codes "d" ∷ codes "x1/l1" ∷ []
-unfolding flat_circuit_of all_places net_at own_nets global_nets flat_model_of all_models signals_of pairing_of groups_of variables_of
+unfolding flat_circuit_of all_places net_at own_nets global_nets flat_model_of unrolled_of network_names all_models signals_of pairing_of groups_of variables_of
 par_variables = refl
 
 -- both holds have the group's bit
 par_held : map (setting_of par 1 (true ∷ true ∷ [])).held (0 ∷ 1 ∷ []) ≡ true ∷ true ∷ []
-unfolding flat_circuit_of all_places net_at own_nets global_nets flat_model_of all_models signals_of pairing_of groups_of variables_of setting_of
+unfolding flat_circuit_of all_places net_at own_nets global_nets flat_model_of unrolled_of network_names all_models signals_of pairing_of groups_of variables_of setting_of
 par_held = refl
 
 -- in the inner cell they reach the latch
 two_groups : (comparison_of two_design par_blif two_rules 0 0).groups ≡ record { members = record { hold = 0; inverted = false } ∷ record { hold = 1; inverted = false } ∷ []; element = Some 0 } ∷ []
-unfolding flat_circuit_of all_places net_at own_nets global_nets flat_model_of all_models signals_of pairing_of groups_of
+unfolding flat_circuit_of all_places net_at own_nets global_nets flat_model_of unrolled_of network_names all_models signals_of pairing_of groups_of
 two_groups = refl
 
 -- a match line that names no element
@@ -103,7 +103,7 @@ two_unmatched : why_paired two_design par_blif (let rules = two_rules in record 
   matches =
       record { line = 12; cell = codes "two"; net = codes "l1"; latch = codes "q"; inverted = false } ∷ record { line = 13; cell = codes "two"; net = codes "l2"; latch = codes "r"; inverted = false } ∷ [];
 }) 0 0 ≡ Some (Unmatched (codes "r"))
-unfolding flat_circuit_of all_places net_at own_nets global_nets flat_model_of all_models signals_of pairing_of ports_fault groups_of variables_of
+unfolding flat_circuit_of all_places net_at own_nets global_nets flat_model_of unrolled_of network_names all_models signals_of pairing_of ports_fault groups_of variables_of
 two_unmatched = refl
 
 -- an instance with an `assume`: its ports are observed, its named ports have rank 0, and its place comes before the fight of the net above them
@@ -132,11 +132,11 @@ abbrev mux_top : Comparison
 mux_top = comparison_of mux_design top_blif (mux_rules (Port (codes "s0"))) 1 0
 
 mux_observed : map (is_observed mux_top 0) (0 ∷ 1 ∷ 2 ∷ 3 ∷ 4 ∷ 5 ∷ []) ≡ false ∷ false ∷ true ∷ true ∷ true ∷ true ∷ []
-unfolding flat_circuit_of all_places net_at own_nets global_nets flat_model_of all_models signals_of pairing_of groups_of is_observed
+unfolding flat_circuit_of all_places net_at own_nets global_nets flat_model_of unrolled_of network_names all_models signals_of pairing_of groups_of is_observed
 mux_observed = refl
 
 mux_named : named_nets mux_top 0 0 ≡ 4 ∷ []
-unfolding flat_circuit_of all_places net_at own_nets global_nets flat_model_of all_models signals_of pairing_of groups_of
+unfolding flat_circuit_of all_places net_at own_nets global_nets flat_model_of unrolled_of network_names all_models signals_of pairing_of groups_of
 mux_named = refl
 
 abbrev bit_count : Bool → ℕ
@@ -147,16 +147,16 @@ abbrev rank_of : ℕ → ℕ
 rank_of n = bit_count (bit_at (false ∷ false ∷ false ∷ false ∷ false ∷ true ∷ []) n)
 
 mux_first : comes_before (standing mux_top 0 rank_of (λ n. n) Constraint 0) (standing mux_top 0 rank_of (λ n. n) Fight 5) ≡ true
-unfolding flat_circuit_of all_places net_at own_nets global_nets flat_model_of all_models signals_of pairing_of groups_of
+unfolding flat_circuit_of all_places net_at own_nets global_nets flat_model_of unrolled_of network_names all_models signals_of pairing_of groups_of
 mux_first = refl
 
 mux_breaks : map (λ (i : FlatInstance). value_by (port_bit mux_design (λ n. Some false) i) (Port (codes "s0"))) mux_top.circuit.instances ≡ Some false ∷ []
-unfolding flat_circuit_of all_places net_at own_nets global_nets flat_model_of all_models signals_of pairing_of groups_of
+unfolding flat_circuit_of all_places net_at own_nets global_nets flat_model_of unrolled_of network_names all_models signals_of pairing_of groups_of
 mux_breaks = refl
 
 -- one name in the constraint of the one instance
 mux_constraints : constraints_size mux_top ≡ 1
-unfolding flat_circuit_of all_places net_at own_nets global_nets flat_model_of all_models signals_of pairing_of groups_of
+unfolding flat_circuit_of all_places net_at own_nets global_nets flat_model_of unrolled_of network_names all_models signals_of pairing_of groups_of
 mux_constraints = refl
 
 -- the port of an `assume` must be there
@@ -165,14 +165,14 @@ mux_missing = refl
 
 -- an output that is an input
 out_in : why_paired (design_of (inv_cell ∷ [])) (record { models = record inv_model { outputs = codes "y" ∷ codes "a" ∷ [] } ∷ [] }) base 0 0 ≡ Some (OutputIsInput (codes "a"))
-unfolding flat_circuit_of all_places net_at own_nets global_nets flat_model_of all_models signals_of pairing_of ports_fault groups_of variables_of
+unfolding flat_circuit_of all_places net_at own_nets global_nets flat_model_of unrolled_of network_names all_models signals_of pairing_of ports_fault groups_of variables_of
 out_in = refl
 
 -- signals in upper case pair with the ports in lower case
 upper_fits : why_paired (design_of (inv_cell ∷ [])) (record {
   models = model_of (codes "INV") (codes "A" ∷ []) (codes "Y" ∷ []) (cover (codes "A" ∷ []) (codes "Y") true (codes "0" ∷ []) ∷ []) [] [] ∷ [];
 }) base 0 0 ≡ None
-unfolding flat_circuit_of all_places net_at own_nets global_nets flat_model_of all_models signals_of pairing_of ports_fault groups_of variables_of
+unfolding flat_circuit_of all_places net_at own_nets global_nets flat_model_of unrolled_of network_names all_models signals_of pairing_of ports_fault groups_of variables_of
 upper_fits = refl
 
 -- cells by depth, then in the order of the file
@@ -181,7 +181,7 @@ by_depth = refl
 
 -- lines
 cycle_line : verdict_line (codes "ring") (Unsupported (Cycle 0 (record { 0 = 1 } ∷ []))) base
-    (Some (record { nets = record { name = codes "gnd"; kind = Plain } ∷ record { name = codes "y"; kind = Plain } ∷ []; devices = []; holds = []; instances = []; wholes = [] })) None
+    (Some (record { nets = record { name = codes "gnd"; kind = Plain } ∷ record { name = codes "y"; kind = Plain } ∷ []; devices = []; holds = []; instances = []; wholes = []; source = 8 })) None
     ≡ codes "cell ring unsupported cycle y phase all"
 cycle_line = refl
 

@@ -7,7 +7,7 @@ use Rattle.vrt_model.specs.Budget.{enough_nodes}
 use Rattle.vrt_model.specs.Comparison.{Comparison}
 use Rattle.vrt_model.specs.Constraints.{meets}
 use Rattle.vrt_model.specs.Faults.{WantsValue, next_phase}
-use Rattle.vrt_model.specs.FlatBlif.{all_models, flat_model_of, signals_of}
+use Rattle.vrt_model.specs.FlatBlif.{all_models, flat_model_of, network_names, signals_of, unrolled_of}
 use Rattle.vrt_model.specs.FlatCircuit.{flat_circuit_of}
 use Rattle.vrt_model.specs.Groups.{groups_of}
 use Rattle.vrt_model.specs.Held.{setting_of, variable_names}
@@ -63,35 +63,35 @@ abbrev par : Comparison
 par = comparison_of design blif rules 1 0
 
 fits : why_paired design blif rules 1 0 ≡ None
-unfolding flat_circuit_of all_places net_at own_nets global_nets flat_model_of all_models signals_of pairing_of ports_fault groups_of variables_of
+unfolding flat_circuit_of all_places net_at own_nets global_nets flat_model_of unrolled_of network_names all_models signals_of pairing_of ports_fault groups_of variables_of
 fits = refl
 
 groups : par.groups ≡ record { members = record { hold = 0; inverted = true } ∷ []; element = Some 0 } ∷ record { members = record { hold = 1; inverted = false } ∷ []; element = None }
     ∷ record { members = record { hold = 2; inverted = false } ∷ record { hold = 3; inverted = true } ∷ []; element = None } ∷ []
-unfolding flat_circuit_of all_places net_at own_nets global_nets flat_model_of all_models signals_of pairing_of groups_of
+unfolding flat_circuit_of all_places net_at own_nets global_nets flat_model_of unrolled_of network_names all_models signals_of pairing_of groups_of
 groups = refl
 
 -- inputs, elements, groups
 names_low : variable_names par 0 ≡ codes "d" ∷ codes "y" ∷ codes "k" ∷ codes "x1/l1" ∷ []
-unfolding flat_circuit_of all_places net_at own_nets global_nets flat_model_of all_models signals_of pairing_of groups_of variables_of
+unfolding flat_circuit_of all_places net_at own_nets global_nets flat_model_of unrolled_of network_names all_models signals_of pairing_of groups_of variables_of
 names_low = refl
 
 names_high : variable_names par 1 ≡ codes "d" ∷ codes "y" ∷ codes "k" ∷ []
-unfolding flat_circuit_of all_places net_at own_nets global_nets flat_model_of all_models signals_of pairing_of groups_of variables_of
+unfolding flat_circuit_of all_places net_at own_nets global_nets flat_model_of unrolled_of network_names all_models signals_of pairing_of groups_of variables_of
 names_high = refl
 
 -- low: y=0 gives h=1 (inverted), k=1, l1=1, l2=0
 held_low : map (setting_of par 0 (false ∷ false ∷ true ∷ true ∷ [])).held (0 ∷ 1 ∷ 2 ∷ 3 ∷ []) ≡ true ∷ true ∷ true ∷ false ∷ []
-unfolding flat_circuit_of all_places net_at own_nets global_nets flat_model_of all_models signals_of pairing_of groups_of variables_of setting_of
+unfolding flat_circuit_of all_places net_at own_nets global_nets flat_model_of unrolled_of network_names all_models signals_of pairing_of groups_of variables_of setting_of
 held_low = refl
 
 meets_low : map (λ (b : Bool). meets par 0 (setting_of par 0 (false ∷ b ∷ true ∷ true ∷ []))) (false ∷ true ∷ []) ≡ true ∷ false ∷ []
-unfolding flat_circuit_of all_places net_at own_nets global_nets flat_model_of all_models signals_of pairing_of groups_of variables_of setting_of
+unfolding flat_circuit_of all_places net_at own_nets global_nets flat_model_of unrolled_of network_names all_models signals_of pairing_of groups_of variables_of setting_of
 meets_low = refl
 
 -- high: the constant l2=1 gives the group 0, so l1=0
 held_high : map (setting_of par 1 (false ∷ false ∷ true ∷ [])).held (0 ∷ 1 ∷ 2 ∷ 3 ∷ []) ≡ true ∷ true ∷ false ∷ true ∷ []
-unfolding flat_circuit_of all_places net_at own_nets global_nets flat_model_of all_models signals_of pairing_of groups_of variables_of setting_of
+unfolding flat_circuit_of all_places net_at own_nets global_nets flat_model_of unrolled_of network_names all_models signals_of pairing_of groups_of variables_of setting_of
 held_high = refl
 
 after : map (next_phase rules) (0 ∷ 1 ∷ []) ≡ 1 ∷ 0 ∷ []
@@ -109,27 +109,27 @@ g = record { signal = λ s. false; next = λ e. false }
 
 -- l2 is apart: l1 is 1, so it ought to be 0
 apart : WantsValue par 0 shown g Apart 8 8 (Some false)
-unfolding flat_circuit_of all_places net_at own_nets global_nets flat_model_of all_models signals_of pairing_of groups_of
+unfolding flat_circuit_of all_places net_at own_nets global_nets flat_model_of unrolled_of network_names all_models signals_of pairing_of groups_of
 apart = (refl, (3, _, record { hold = 3; inverted = true }, record { hold = 2; inverted = false }, _, record { stands = (_, refl, refl); grouped = (2, refl); joined = ((1, refl), refl) }, refl, refl, refl, refl))
 
 next : WantsValue par 0 shown g Next 5 5 (Some true)
-unfolding flat_circuit_of all_places net_at own_nets global_nets flat_model_of all_models signals_of pairing_of groups_of
+unfolding flat_circuit_of all_places net_at own_nets global_nets flat_model_of unrolled_of network_names all_models signals_of pairing_of groups_of
 next = (refl, (0, _, record { hold = 0; inverted = true }, 0, record { stands = (_, refl, refl); grouped = (0, refl); joined = ((0, refl), refl) }, refl, refl))
 
 -- in phase low l2 ought to be the constant of high; in phase high h that of low
 enter_low : WantsValue par 0 shown g Enter 8 8 (Some true)
-unfolding flat_circuit_of all_places net_at own_nets global_nets flat_model_of all_models signals_of pairing_of groups_of
+unfolding flat_circuit_of all_places net_at own_nets global_nets flat_model_of unrolled_of network_names all_models signals_of pairing_of groups_of
 enter_low = (refl, (3, _, refl, refl, refl, true, refl))
 
 enter_high : WantsValue par 1 shown g Enter 5 5 (Some true)
-unfolding flat_circuit_of all_places net_at own_nets global_nets flat_model_of all_models signals_of pairing_of groups_of
+unfolding flat_circuit_of all_places net_at own_nets global_nets flat_model_of unrolled_of network_names all_models signals_of pairing_of groups_of
 enter_high = (refl, (0, _, refl, refl, refl, true, refl))
 
 less : map (is_less (true ∷ false ∷ [])) ((true ∷ true ∷ []) ∷ (false ∷ true ∷ []) ∷ (true ∷ false ∷ []) ∷ []) ≡ true ∷ false ∷ false ∷ []
 less = refl
 
 nodes : enough_nodes (comparison_of (design_of (inv_cell ∷ [])) (record { models = inv_model ∷ [] }) base 0 0) (record { models = inv_model ∷ [] }) 0 ≡ 70602
-unfolding flat_circuit_of all_places net_at own_nets global_nets flat_model_of all_models signals_of pairing_of groups_of variables_of
+unfolding flat_circuit_of all_places net_at own_nets global_nets flat_model_of unrolled_of network_names all_models signals_of pairing_of groups_of variables_of
 nodes = refl
 
 unsettled_line : verdict_line (codes "dom")
@@ -137,7 +137,7 @@ unsettled_line : verdict_line (codes "dom")
     ≡ codes "cell dom unsettled d phase high circuit 0 wanted 1 at -"
 unsettled_line = refl
 
-cycle_line : verdict_line (codes "inv") (Unsupported (ModelCycle 1 (0 ∷ []))) rules None (Some (record { signals = codes "y" ∷ []; inputs = []; clocks = []; outputs = []; covers = []; latches = [] }))
+cycle_line : verdict_line (codes "inv") (Unsupported (ModelCycle 1 (0 ∷ []))) rules None (Some (record { signals = codes "y" ∷ []; inputs = []; clocks = []; outputs = []; covers = []; latches = []; dontcares = [] }))
     ≡ codes "cell inv unsupported modelcycle y phase high"
 cycle_line = refl
 

@@ -100,6 +100,7 @@ flat_with_none t blif facts = record {
   holds = sym (holds_same t);
   instances = sym (instances_same t);
   wholes = subst (λ (ps : List NumberedPlace). AllZip (IsWholeAt (whole_nowhere t) blif facts) ps []) (sym (no_whole_place t)) tt;
+  source = refl;
 }
 
 -- where no fact is known, it is the checked circuit

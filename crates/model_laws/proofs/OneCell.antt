@@ -184,4 +184,4 @@ module _ (k : Comparison) (phase : ℕ) (cell : IsOneCell k phase) (setting : Se
       none a g solves assigns Differs at st =
           let w = st.2 in
           let same : a w.0.net ≡ Some (g.signal w.1) = output_shows a g solves w.0 w.1 at w.2 w.3 w.4 (outputs g at w.0 w.1 assigns w.2 w.3 w.4) in
-          st.3 (ap a w.5 ∙ (same ∙ sym w.6))
+          st.3 (ap a w.6 ∙ (same ∙ sym w.7))

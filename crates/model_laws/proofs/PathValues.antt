@@ -4,7 +4,7 @@ use Rattle.std.specs.Prelude.{cond, codes, nat_eq, nat_le, not, option_map, slic
 use Rattle.model_laws.specs.Cells.{blk_cell, blk_rules, inv_model}
 use Rattle.vrt_model.proofs.Cells.{design_of}
 use Rattle.vrt_model.proofs.Members.{at_all, at_none}
-use Rattle.vrt_model.specs.FlatBlif.{all_models, flat_model_of, signals_of}
+use Rattle.vrt_model.specs.FlatBlif.{all_models, flat_model_of, network_names, signals_of, unrolled_of}
 use Rattle.vrt_model.specs.FlatCircuit.{flat_circuit_of}
 use Rattle.vrt_model.specs.Lists.{At, Among, bit_at}
 use Rattle.vrt_model.specs.PairedPorts.{pairing_of}
@@ -43,11 +43,12 @@ blk = record {
   holds = [];
   instances = [];
   wholes = [];
+  source = 8;
 }
 
 -- it is the flat circuit of its netlist
 blk_is_flat : (comparison_of (design_of (blk_cell ∷ [])) (record { models = record inv_model { name = codes "blk" } ∷ [] }) blk_rules 0 0).circuit ≡ blk
-unfolding flat_circuit_of all_places net_at own_nets global_nets flat_model_of all_models signals_of pairing_of
+unfolding flat_circuit_of all_places net_at own_nets global_nets flat_model_of unrolled_of network_names all_models signals_of pairing_of
 blk_is_flat = refl
 
 -- at a = 1
@@ -193,6 +194,7 @@ bridge =
       holds = [];
       instances = [];
       wholes = [];
+      source = 8;
     }
 
 -- at a = c = e = 1 and b = d = 0

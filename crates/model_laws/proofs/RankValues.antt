@@ -8,7 +8,7 @@ use Rattle.vrt_model.proofs.Cells.{base, cover, design_of, gnd, model_of, p_devi
 use Rattle.vrt_model.specs.Checked.{top_of}
 use Rattle.vrt_model.specs.Comparison.{Comparison, output_signal, phase_at}
 use Rattle.vrt_model.specs.Cut.{NumberedPlace, whole_places}
-use Rattle.vrt_model.specs.FlatBlif.{all_models, flat_model_of, signals_of}
+use Rattle.vrt_model.specs.FlatBlif.{all_models, flat_model_of, network_names, signals_of, unrolled_of}
 use Rattle.vrt_model.specs.FlatCircuit.{flat_circuit_of}
 use Rattle.vrt_model.specs.Groups.{groups_of}
 use Rattle.vrt_model.specs.Known.{IsPlain, IsRanking, itself}
@@ -61,7 +61,7 @@ abbrev pins : List Pin
 pins = pin_a ∷ pin_y ∷ []
 
 pins_are : map (λ (p : NumberedPlace). pins_of inner p.at) (whole_places (record { top = top; choice = choice })) ≡ pins ∷ []
-unfolding flat_circuit_of all_places net_at own_nets global_nets flat_model_of all_models signals_of pairing_of groups_of
+unfolding flat_circuit_of all_places net_at own_nets global_nets flat_model_of unrolled_of network_names all_models signals_of pairing_of groups_of
 pins_are = refl
 
 abbrev out_pin : WholePin

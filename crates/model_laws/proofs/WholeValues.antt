@@ -5,7 +5,7 @@ use Rattle.vrt_model.proofs.Cells.{base, cover, design_of, gnd, model_of, n_devi
 use Rattle.vrt_model.specs.Checked.{top_of}
 use Rattle.vrt_model.specs.CheckedParts.{checked_devices, checked_instances}
 use Rattle.vrt_model.specs.Cut.{Cut, NumberedPlace, whole_places}
-use Rattle.vrt_model.specs.FlatBlif.{all_models, flat_model_of, signals_of}
+use Rattle.vrt_model.specs.FlatBlif.{all_models, flat_model_of, network_names, signals_of, unrolled_of}
 use Rattle.vrt_model.specs.FlatCircuit.{flat_circuit_of, flat_nets}
 use Rattle.vrt_model.specs.Groups.{groups_of}
 use Rattle.vrt_model.specs.PairedPorts.{pairing_of}
@@ -69,26 +69,26 @@ abbrev cut : Cut
 cut = record { top = top; choice = choice }
 
 nets : map (λ (n : FlatNet). n.name) (flat_nets top) ≡ codes "gnd" ∷ codes "vdd" ∷ codes "a" ∷ codes "y" ∷ codes "q" ∷ codes "p" ∷ codes "x1/m" ∷ codes "x1/xi0/n" ∷ codes "x1/xi1/n" ∷ codes "x2/m" ∷ codes "x2/xi0/n" ∷ codes "x2/xi1/n" ∷ codes "x3/m" ∷ codes "x3/xi0/n" ∷ codes "x3/xi1/n" ∷ []
-unfolding flat_circuit_of all_places net_at own_nets global_nets flat_model_of all_models signals_of pairing_of
+unfolding flat_circuit_of all_places net_at own_nets global_nets flat_model_of unrolled_of network_names all_models signals_of pairing_of
 nets = refl
 
 devices : map (λ (d : Device). d.left.0 ∷ d.gate.0 ∷ d.right.0 ∷ []) (checked_devices cut) ≡ (4 ∷ 2 ∷ 3 ∷ []) ∷ (9 ∷ 5 ∷ 10 ∷ []) ∷ (10 ∷ 0 ∷ 1 ∷ []) ∷ (9 ∷ 5 ∷ 0 ∷ []) ∷ []
-unfolding flat_circuit_of all_places net_at own_nets global_nets flat_model_of all_models signals_of pairing_of
+unfolding flat_circuit_of all_places net_at own_nets global_nets flat_model_of unrolled_of network_names all_models signals_of pairing_of
 devices = refl
 
 instances : map (λ (i : FlatInstance). i.path) (checked_instances cut) ≡ codes "x1" ∷ codes "x2" ∷ codes "x2/xi0" ∷ codes "x2/xi1" ∷ codes "x3" ∷ []
-unfolding flat_circuit_of all_places net_at own_nets global_nets flat_model_of all_models signals_of pairing_of
+unfolding flat_circuit_of all_places net_at own_nets global_nets flat_model_of unrolled_of network_names all_models signals_of pairing_of
 instances = refl
 
 wholes : map (λ (p : NumberedPlace). p.number) (whole_places cut) ≡ 1 ∷ 6 ∷ 7 ∷ []
-unfolding flat_circuit_of all_places net_at own_nets global_nets flat_model_of all_models signals_of pairing_of
+unfolding flat_circuit_of all_places net_at own_nets global_nets flat_model_of unrolled_of network_names all_models signals_of pairing_of
 wholes = refl
 
 outs : map (λ (o : OutputAt). settled_drive (checked_devices cut) (all_outputs cut blif facts) o) (all_outputs cut blif facts)
     ≡ record { net = record { 0 = 5 }; signal = 1; drive = Soft; observed = false } ∷ record { net = record { 0 = 4 }; signal = 1; drive = Level 6; observed = false } ∷ record { net = record { 0 = 4 }; signal = 1; drive = Level 6; observed = false } ∷ []
-unfolding flat_circuit_of all_places net_at own_nets global_nets flat_model_of all_models signals_of pairing_of groups_of
+unfolding flat_circuit_of all_places net_at own_nets global_nets flat_model_of unrolled_of network_names all_models signals_of pairing_of groups_of
 outs = refl
 
 allowed : map (is_output_allowed (checked_devices cut) (all_outputs cut blif facts)) (all_outputs cut blif facts) ≡ true ∷ true ∷ true ∷ []
-unfolding flat_circuit_of all_places net_at own_nets global_nets flat_model_of all_models signals_of pairing_of groups_of
+unfolding flat_circuit_of all_places net_at own_nets global_nets flat_model_of unrolled_of network_names all_models signals_of pairing_of groups_of
 allowed = refl

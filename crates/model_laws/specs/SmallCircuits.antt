@@ -113,6 +113,7 @@ dynamic = record {
   holds = hold 2 1 ∷ [];
   instances = [];
   wholes = [];
+  source = 8;
 }
 
 abbrev pub dynamic_as : Bool → Network

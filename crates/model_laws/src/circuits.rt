@@ -16,6 +16,7 @@ ghost use Rattle.vrt_model.specs.Equal.{Agree};
 ghost use Rattle.vrt_model.specs.Faults.{Assigns};
 ghost use Rattle.vrt_model.specs.FlatCircuit.{flat_circuit_of};
 ghost use Rattle.vrt_model.specs.Known.{IsPlain, IsRanking, IsUnknown};
+ghost use Rattle.vrt_model.specs.Levels.{least_level, source_level};
 ghost use Rattle.vrt_model.specs.Lists.{Among, At};
 ghost use Rattle.vrt_model.specs.Reading.{Partial, Reading, devices_of};
 ghost use Rattle.vrt_model.specs.Response.{Fight, Float, IsResponse, Shows};
@@ -37,8 +38,8 @@ ghost use Rattle.vrt_model.specs.declared.whole.CellFacts.{CellFacts};
 #[tactic(auto, using(crate::proofs::WellFormed::circuit_ranges, crate::proofs::WellFormed::small_holds))]
 pub fn well_formed()
     ensures ranges { (c : Circuit) → IsCircuit c → HasRanges c }
-    ensures devices { (c : Circuit) → IsCircuit c → (d : Device) → Among (devices_of true c) d → d.level ≤ 7 }
-    ensures holds { (c : Circuit) → IsCircuit c → (at : ℕ) (h : Hold) → At c.holds at h → h.size ≤ 3 }
+    ensures devices { (c : Circuit) → IsCircuit c → (d : Device) → Among (devices_of true c) d → d.level < source_level c }
+    ensures holds { (c : Circuit) → IsCircuit c → (at : ℕ) (h : Hold) → At c.holds at h → h.size < least_level c }
 {}
 
 /// The flat circuit has no whole instance. It is the circuit in which none is left whole, and the checked one where

@@ -11,12 +11,13 @@ ghost use Rattle.vrt_model.specs.FlatModels.{IsControl, IsCover, IsFlatModel, Is
 ghost use Rattle.vrt_model.specs.Lists.{Among};
 ghost use Rattle.vrt_model.specs.declared.flat_model.FlatLatch.{FlatLatch as LatchValue};
 ghost use Rattle.vrt_model.specs.declared.flat_model.Cover.{Cover as CoverValue};
+ghost use Rattle.vrt_model.specs.declared.flat_model.DontCare.{DontCare as DontCareValue};
 
 use crate::spans::is_live;
 use bdd_core::Store;
 use node_pool::Span;
 use std::alloc::Global;
-use vrt_model::{Cover, FlatLatch, FlatModel, LatchKind, NoMemory, Seq, Text};
+use vrt_model::{Cover, DontCare, FlatLatch, FlatModel, LatchKind, NoMemory, Seq, Text};
 
 fn are_signs(bytes: &[u8]) -> bool
     ensures { result ≡ true → All (λ b. (b ≡ 48) ⊎ (b ≡ 49) ⊎ (b ≡ 45)) bytes.now }
@@ -169,8 +170,17 @@ fn are_latches(latches: &[FlatLatch], count: u32) -> bool
     latches.iter().all(|latch| is_latch(latch, count))
 }
 
+/// Whether the signals of don't-care bits and their outputs are below a count.
+fn are_dontcares(dontcares: &[DontCare], count: u32) -> bool
+    ensures { result ≡ true → All (λ (d : DontCareValue). (d.output < count) × (d.bit < count)) dontcares.now }
+{
+    dontcares
+        .iter()
+        .all(|one| one.output < count && one.bit < count)
+}
+
 fn are_in_range(flat: &FlatModel, count: u32) -> bool
-    ensures { result ≡ true → All (λ s. s < count) flat.now.inputs × All (λ s. s < count) flat.now.clocks × All (λ s. s < count) flat.now.outputs × All (IsCover count) flat.now.covers × All (IsLatch count) flat.now.latches }
+    ensures { result ≡ true → All (λ s. s < count) flat.now.inputs × All (λ s. s < count) flat.now.clocks × All (λ s. s < count) flat.now.outputs × All (IsCover count) flat.now.covers × All (IsLatch count) flat.now.latches × All (λ (d : DontCareValue). (d.output < count) × (d.bit < count)) flat.now.dontcares }
 {
     are_below(flat.inputs.as_slice(), count)
         && are_below(flat.clocks.as_slice(), count)
@@ -181,12 +191,13 @@ fn are_in_range(flat: &FlatModel, count: u32) -> bool
             .iter()
             .all(|cover| is_cover(cover, count))
         && are_latches(flat.latches.as_slice(), count)
+        && are_dontcares(flat.dontcares.as_slice(), count)
 }
 
 fn is_well_formed(flat: &FlatModel, outputs: &[u32]) -> bool
     requires few { length flat.now.signals ≤ 20000 }
     requires rows { sum_by (λ (c : CoverValue). length c.rows) flat.now.covers ≤ 200000 }
-    requires range { All (λ s. s < length flat.now.signals) flat.now.inputs × All (λ s. s < length flat.now.signals) flat.now.clocks × All (λ s. s < length flat.now.signals) flat.now.outputs × All (IsCover (length flat.now.signals)) flat.now.covers × All (IsLatch (length flat.now.signals)) flat.now.latches }
+    requires range { All (λ s. s < length flat.now.signals) flat.now.inputs × All (λ s. s < length flat.now.signals) flat.now.clocks × All (λ s. s < length flat.now.signals) flat.now.outputs × All (IsCover (length flat.now.signals)) flat.now.covers × All (IsLatch (length flat.now.signals)) flat.now.latches × All (λ (d : DontCareValue). (d.output < length flat.now.signals) × (d.bit < length flat.now.signals)) flat.now.dontcares }
     requires outputs { outputs.now ≡ outputs_in flat.now }
     ensures { result ≡ true → IsFlatModel flat.now }
 {

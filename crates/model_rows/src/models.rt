@@ -172,6 +172,7 @@ impl Model {
             outputs: Seq::new(alloc),
             covers: Seq::new(alloc),
             latches: Seq::new(alloc),
+            dontcares: Seq::new(alloc),
         };
         for _ in 0..signals {
             append_text(&mut flat.signals, Text::from_bytes(alloc, b"s")?)?;

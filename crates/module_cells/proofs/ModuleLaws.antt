@@ -12,7 +12,7 @@ use Rattle.verilog_meaning.proofs.InstanceLaws.{model_there}
 use Rattle.verilog_models.specs.Models.{blif_of, model_of}
 use Rattle.verilog_source.specs.Modules.{Module}
 use Rattle.vrt_model.specs.Comparison.{Comparison, cell_at}
-use Rattle.vrt_model.specs.FlatBlif.{flat_model_of, model_at, signal_at, top_model}
+use Rattle.vrt_model.specs.FlatBlif.{flat_model_of, model_at, network_names, signal_at, top_model, unrolled_of}
 use Rattle.vrt_model.specs.Lists.{Among, At, has_name}
 use Rattle.vrt_model.specs.PairedPorts.{Missing, Model, Paired, Skipped, has_lower_name, model_like, model_named, paired_by, paired_model}
 use Rattle.vrt_model.specs.Unsupported.{comparison_of}
@@ -75,7 +75,7 @@ no_clock blif m x s same a =
 -- each input of a module's flat model is a net of the module
 input_net : (modules : List Module) (m : ℕ) (top : Module) (s : ℕ) → At modules m top → Among ((flat_model_of (blif_of modules) m).inputs ++ (flat_model_of (blif_of modules) m).clocks) s
     → (name : List ℕ) × IsNet modules m top name s
-unfolding flat_model_of
+unfolding flat_model_of unrolled_of network_names
 input_net modules m top s at a =
     let blif = blif_of modules in
     let same = model_there modules m top at in

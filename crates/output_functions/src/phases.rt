@@ -80,6 +80,7 @@ fn join_next(
         compared.cell,
         compared.pairing,
         phase,
+        &[],
     ) else {
         return Err(Stop::NoMemory);
     };

@@ -17,7 +17,7 @@ use crate::judge::{is_asked, judge_part};
 use bdd_core::{H, Spent, Store};
 use channel_parts::Part;
 use node_pool::Span;
-use path_fixpoint::{NetWords, net_words, source_level, strengths};
+use path_fixpoint::{NetWords, net_words, strengths};
 use vrt_model::{Circuit, Net};
 
 /// The words for a part among those for the greatest.
@@ -25,7 +25,7 @@ fn words_of(circuit: &Circuit, part: &Part, out: Span) -> NetWords
     requires { net_words (source_level circuit.now) * length part.now.nets ≤ out.len }
     ensures { result ≡ circuit_words circuit.now (record { start = out.start; len = net_words (source_level circuit.now) * length part.now.nets }) }
 {
-    let source = source_level(circuit);
+    let source = circuit.source_level();
     let span = Span {
         start: out.start,
         len: net_words(source) * part.nets.len() as u32,

@@ -6,7 +6,7 @@ ghost use Rattle.bdd_core.specs.Store.{IsSpan};
 use bdd_core::{H, ONE, Spent, Store};
 use circuit_draft::HIGH;
 use node_pool::Span;
-use path_fixpoint::{Part, are_spans, is_part, net_words, solve_part, source_level};
+use path_fixpoint::{Part, are_spans, is_part, net_words, solve_part};
 use plain_paths::is_flat;
 use std::alloc::Global;
 use vrt_model::{Circuit, Dev, Net, NetKind, NoMemory, Seq, Var};
@@ -118,7 +118,7 @@ impl Board {
     pub(crate) fn open(alloc: Global, circuit: Circuit) -> Result<Board, Refused> {
         let part = whole_part(alloc, &circuit)?;
         let nets = circuit.nets.len().min(MOST) as u32;
-        let words = net_words(source_level(&circuit)) * part.nets.len().min(MOST) as u32;
+        let words = net_words(circuit.source_level()) * part.nets.len().min(MOST) as u32;
         let Ok(mut store) = Store::with_budget(alloc, BUDGET, nets + words, VARS) else {
             return Err(Refused::NoMemory);
         };

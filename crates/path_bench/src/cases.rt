@@ -30,6 +30,17 @@ pub enum Case {
     RowBackwards,
 }
 
+/// A case of a size, at the scale of eight levels or of fifteen.
+#[derive(Clone, Copy)]
+pub struct Sized {
+    /// The case.
+    pub case: Case,
+    /// Devices of a chain or a row, rungs, selecting inputs, products, or inputs.
+    pub size: u32,
+    /// Whether it has fifteen levels.
+    pub wide: bool,
+}
+
 /// All of them.
 pub const ALL: [Case; 8] = [
     Case::Chain,
@@ -68,9 +79,13 @@ pub(crate) fn usual_size(case: Case) -> u32 {
 }
 
 /// The circuit of a case of a size. The multiplexer has at most 8 selecting inputs.
-pub(crate) fn circuit(alloc: Global, case: Case, size: u32) -> Result<Circuit, NoMemory> {
+pub(crate) fn circuit(alloc: Global, sized: Sized) -> Result<Circuit, NoMemory> {
     let mut draft = Draft::new(alloc)?;
-    match case {
+    if sized.wide {
+        draft.widen();
+    }
+    let size = sized.size;
+    match sized.case {
         Case::Chain => chain(&mut draft, size, true)?,
         Case::ChainBackwards => chain_backwards(&mut draft, size, true)?,
         Case::Ladder => ladder(&mut draft, size)?,

@@ -2,7 +2,8 @@
 //!
 //! With no words each part is solved once, and a line tells its nets and devices, and the nodes of the store before and
 //! after, with the two constants. With the words CASE SIZE TIMES that one is solved so many times, each time in a new
-//! store, and the line ends with the microseconds that solving took at best, without the opening.
+//! store, and the line ends with the microseconds that solving took at best, without the opening. With 16 behind these the
+//! circuit has fifteen levels.
 #![tactic(auto)]
 
 mod board;
@@ -10,7 +11,7 @@ mod cases;
 
 use anyhow::{Result, bail};
 use board::{Board, Refused};
-use cases::{ALL, Case};
+use cases::{ALL, Case, Sized};
 use std::alloc::Global;
 use std::env;
 use std::time::Instant;
@@ -35,14 +36,14 @@ fn case_of(name: &str) -> Option<Case> {
     None
 }
 
-fn open(alloc: Global, case: Case, size: u32) -> Result<Board, Refused> {
-    let circuit = cases::circuit(alloc, case, size)?;
+fn open(alloc: Global, sized: Sized) -> Result<Board, Refused> {
+    let circuit = cases::circuit(alloc, sized)?;
     Board::open(alloc, circuit)
 }
 
 /// Solves one part in a new store.
-fn solve(rt: HostRuntime, case: Case, size: u32) -> Result<Solved> {
-    let mut board = match open(rt.alloc(), case, size) {
+fn solve(rt: HostRuntime, sized: Sized) -> Result<Solved> {
+    let mut board = match open(rt.alloc(), sized) {
         Ok(board) => board,
         Err(refused) => bail!("not opened: {refused:?}"),
     };
@@ -64,8 +65,8 @@ fn solve(rt: HostRuntime, case: Case, size: u32) -> Result<Solved> {
 }
 
 /// Tells the size of a part and the nodes.
-fn tell(rt: HostRuntime, case: Case, size: u32, solved: Solved) -> Result<()> {
-    let name = cases::name(case);
+fn tell(rt: HostRuntime, sized: Sized, solved: Solved) -> Result<()> {
+    let (name, size) = (cases::name(sized.case), sized.size);
     let Solved {
         nets,
         devices,
@@ -80,15 +81,15 @@ fn tell(rt: HostRuntime, case: Case, size: u32, solved: Solved) -> Result<()> {
 }
 
 /// Solves one part several times, and tells its size, the nodes and the least time.
-fn time(rt: HostRuntime, case: Case, size: u32, times: u32) -> Result<()> {
-    let mut best = solve(rt, case, size)?;
+fn time(rt: HostRuntime, sized: Sized, times: u32) -> Result<()> {
+    let mut best = solve(rt, sized)?;
     for _ in 1..times {
-        let next = solve(rt, case, size)?;
+        let next = solve(rt, sized)?;
         if next.micros < best.micros {
             best = next;
         }
     }
-    tell(rt, case, size, best)?;
+    tell(rt, sized, best)?;
     let micros = best.micros;
     println!(rt; ", {micros} microseconds")?;
     Ok(())
@@ -108,8 +109,12 @@ fn main(rt: HostRuntime) -> Result<()> {
     }
     let Some(name) = words.get(1) else {
         for case in ALL {
-            let size = cases::usual_size(case);
-            tell(rt, case, size, solve(rt, case, size)?)?;
+            let sized = Sized {
+                case,
+                size: cases::usual_size(case),
+                wide: false,
+            };
+            tell(rt, sized, solve(rt, sized)?)?;
             println!(rt; "")?;
         }
         return Ok(());
@@ -117,6 +122,10 @@ fn main(rt: HostRuntime) -> Result<()> {
     let Some(case) = case_of(name.as_str()) else {
         bail!("no such case");
     };
-    let size = number(words.get(2), cases::usual_size(case));
-    time(rt, case, size, number(words.get(3), 1))
+    let sized = Sized {
+        case,
+        size: number(words.get(2), cases::usual_size(case)),
+        wide: number(words.get(4), 8) == 16,
+    };
+    time(rt, sized, number(words.get(3), 1))
 }

@@ -20,7 +20,7 @@ use crate::pins::{drive_level, pin_at};
 use crate::ranges::rises;
 use crate::rounds::settle;
 use crate::steps::visited;
-use crate::words::{NetWords, source_level};
+use crate::words::NetWords;
 use bdd_core::{Spent, Store};
 use node_pool::Span;
 use vrt_model::{Circuit, WholePin};
@@ -80,7 +80,7 @@ fn no_output_has(source: u8, outputs: &[WholePin], level: u32) -> bool
 fn no_pin_has(circuit: &Circuit, level: u32) -> bool
     ensures { result ≡ true → NoPinHas (source_level circuit.now) (pins_of circuit.now) level }
 {
-    let source = source_level(circuit);
+    let source = circuit.source_level();
     for whole in circuit.wholes.as_slice() {
         if !no_output_has(source, whole.outputs.as_slice(), level) {
             return false;
@@ -94,7 +94,7 @@ fn is_unused(circuit: &Circuit, part: &Part, level: u32) -> bool
     requires { IsPart circuit.now part.now }
     ensures { result ≡ true → IsUnused circuit.now part.now level }
 {
-    if level >= source_level(circuit) as u32 {
+    if level >= circuit.source_level() as u32 {
         return false;
     }
     if !no_device_has(circuit, part, level) {

@@ -21,4 +21,4 @@ pub use channel_parts::Part;
 pub use levels::strengths;
 pub use ranges::{are_spans, is_part};
 pub use solve::solve_part;
-pub use words::{NetWords, net_words, reached, source_level};
+pub use words::{NetWords, net_words, reached};

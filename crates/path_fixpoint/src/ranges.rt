@@ -12,7 +12,7 @@ ghost use Rattle.path_fixpoint.specs.Strengths.{net_words, circuit_words};
 use crate::Part;
 use crate::opening::is_given;
 use crate::steps::place;
-use crate::words::{net_words, source_level};
+use crate::words::net_words;
 use bdd_core::Store;
 use node_pool::Span;
 use vrt_model::{Circuit, Dev, Net};
@@ -177,7 +177,7 @@ pub fn are_spans(
 ) -> bool
     ensures { IsTrue result ↔ HasRootSpans circuit.now part.now gates roots (circuit_words circuit.now out) store.now }
 {
-    has_words(store, source_level(circuit), part, out)
+    has_words(store, circuit.source_level(), part, out)
         && has_handles(store, gates, out)
         && has_handles(store, roots, out)
         && has_lengths(circuit, gates.len as usize, roots.len as usize)

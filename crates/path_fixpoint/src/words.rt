@@ -5,7 +5,6 @@ ghost use Rattle.bdd_core.specs.Store.{IsLive, IsSpan};
 ghost use Rattle.bdd_core.specs.Words.{IsFilled, word_at};
 ghost use Rattle.path_fixpoint.specs.Reaching.{slot_of};
 ghost use Rattle.path_fixpoint.specs.Strengths.{net_words, word_of, circuit_words};
-ghost use Rattle.vrt_model.specs.Levels.{source_level};
 
 use crate::signals::slot;
 use crate::steps::word;
@@ -30,17 +29,9 @@ impl NetWords {
     {
         NetWords {
             span,
-            source: source_level(circuit),
+            source: circuit.source_level(),
         }
     }
-}
-
-/// The level of the supplies, the inputs and the clock ports of a circuit, which no root passes.
-pub fn source_level(circuit: &Circuit) -> u8
-    ensures { result ≡ source_level circuit.now }
-{
-    let _circuit = circuit;
-    8
 }
 
 /// How many words each net of a part has, by the source level: one for each level from 1 to that one, and one for each value.

@@ -1,5 +1,5 @@
 -- What nets ought to have in a phase: what the search asks, and what it finds.
-use Rattle.std.proofs.Common.{◌≡◌, ℕ, ◌+◌, ◌<◌, Bool, true, List, Some, None, All, length, map, arith, ap, refl, subst, sym, ◌∙◌}
+use Rattle.std.proofs.Common.{◌≡◌, ℕ, ◌+◌, ◌<◌, Bool, true, List, Option, Some, None, All, length, map, arith, ap, refl, subst, sym, ◌∙◌}
 use Rattle.std.specs.Prelude.{◌-◌, IsSome, slice_index}
 use Rattle.bdd_core.specs.Diagram.{IsReduced, meaning}
 use Rattle.bdd_core.specs.Store.{Diagrams}
@@ -16,13 +16,14 @@ use Rattle.phase_laws.specs.Models.{HasOneModel}
 use Rattle.phase_check.specs.States.{HasModelBits, HasNetBits, IsClearAt, circuit_spots, handles_of}
 use Rattle.phase_terms.specs.Found.{IsPhaseFault, at_bits, met}
 use Rattle.phase_terms.specs.Opened.{IsOpen}
-use Rattle.phase_terms.specs.Plans.{IsPhasePlan, IsWantedThere, IsWishThere, planned_spots, step_spots}
+use Rattle.phase_terms.specs.Plans.{IsFreeThere, IsPhasePlan, IsWantedThere, IsWishThere, planned_spots, step_spots}
 use Rattle.phase_terms.specs.Ready.{IsReady}
 use Rattle.phase_terms.specs.Stores.{HasPhaseWords, IsPhaseStore, IsUsed, counts_of}
 use Rattle.phase_terms.specs.declared.plan.PhasePlan.{PhasePlan}
 use Rattle.phase_terms.specs.declared.words.PhaseWords.{PhaseWords}
+use Rattle.phase_wishes.proofs.FoundLaws.{asked_cared}
 use Rattle.phase_wishes.proofs.WishLaws.{missed_stands, wish_printed, wishes_once}
-use Rattle.phase_wishes.specs.Missed.{AreBits, AreWithin, IsFirstMissed, IsFoundWish, IsInside, IsWithinBits, WishCase, WishesFind}
+use Rattle.phase_wishes.specs.Missed.{AreBits, AreWithin, IsFirstMissed, IsFoundWish, IsFreeInside, IsInside, IsWithinBits, WishCase, WishesFind}
 use Rattle.phase_wishes.specs.Wishes.{spot_of, wished_kinds}
 use Rattle.phase_wishes.specs.declared.missed.WishFault.{WishFault}
 use Rattle.phase_wishes.specs.declared.wishes.Wanted.{Wanted}
@@ -65,10 +66,14 @@ module _ (k : Comparison) (phase : ℕ) (plan : PhasePlan) (ready : IsReady k) (
   inside_of (Other net inverted) lt = omega (arith, lt, h.gates_len)
   inside_of (Constant v) lt = tt
 
+  free_inside : (free : Option ℕ) → IsFreeThere k free → IsFreeInside b free
+  free_inside None lt = tt
+  free_inside (Some bit) lt = omega (arith, lt, h.inputs_len)
+
   pub wishes_inside : All (IsWithinBits b) plan.wishes
   wishes_inside = all_by (IsWithinBits b) plan.wishes (λ wish m.
       let there = all_among (IsWishThere k phase) plan.wishes wish is.there m in
-      ((let lt = there.net in omega (arith, lt, h.gates_len)), inside_of wish.wanted there.wanted))
+      ((let lt = there.net in omega (arith, lt, h.gates_len)), inside_of wish.wanted there.wanted, free_inside wish.free there.free))
 
   pub wishes_within : (budget u a : ℕ) → IsUsed budget u a old → IsReduced old.vars old.nodes → IsFilled old w.gates → IsFilled old w.values → AreWithin u old b
   wishes_within budget u a used sound gates values =
@@ -114,7 +119,7 @@ module _ (k : Comparison) (phase : ℕ) (plan : PhasePlan) (ready : IsReady k) (
 
     module _ (new : Diagrams) (fault : WishFault) (first : IsFirstMissed plan.wishes care b fault old new) (has : IsFoundWish plan.wishes care b fault old new) where
       met_there : (v : Case k phase) → at_bits new fault.at v.bits ≡ true → met k phase v.bits ≡ true
-      met_there v e = sym (o.care_is v.bits) ∙ ((first.exact (bits_of v.bits)).0 e).0
+      met_there v e = sym (o.care_is v.bits) ∙ asked_cared old care b fault.wish.free (bits_of v.bits) ((first.exact (bits_of v.bits)).0 e).0
 
       here_found : IsFoundIn (StandsIn k phase) (λ (v : Case k phase). met k phase v.bits) (λ (v : Case k phase). at_bits new fault.at v.bits) (map spot_of plan.wishes) (spot_of fault.wish)
       unfolding to
@@ -151,5 +156,5 @@ module _ (k : Comparison) (phase : ℕ) (plan : PhasePlan) (ready : IsReady k) (
           store sound refl first.live first.some (first.circuit.live, first.wanted.live) (all_found clear)
           (λ v e.
           wish_printed k phase plan.wishes is.wishes (setting_of k phase v.bits) v.solution v.assignment fault.wish
-          (Some (at_bits new fault.circuit v.bits)) (Some (at_bits new fault.wanted v.bits)) has.among
+          (Some (at_bits new fault.circuit v.bits)) (Some (at_bits new fault.wanted v.bits)) has.among (has.asked (to v (met_there v e)) e)
           (has.has (to v (met_there v e))) (has.ought (to v (met_there v e))))

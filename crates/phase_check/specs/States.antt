@@ -165,7 +165,7 @@ abbrev pub model_operations : Comparison → ℕ
 model_operations k = 2 * model_size k.model
 
 abbrev pub wish_operations : PhasePlan → ℕ
-wish_operations plan = 3 * length plan.wishes
+wish_operations plan = 4 * length plan.wishes
 
 -- the comparison that is searched
 abbrev pub of_search : Search → Comparison

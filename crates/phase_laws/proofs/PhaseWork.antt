@@ -26,7 +26,7 @@ use Rattle.vrt_model.specs.Held.{sources_of}
 use Rattle.vrt_model.specs.Levels.{source_level}
 use Rattle.vrt_model.specs.declared.circuit.Circuit.{Circuit}
 use Rattle.vrt_model.specs.declared.rules.Phase.{Phase}
-use Rattle.path_fixpoint.proofs.SourceLevels.{source_most}
+use Rattle.vrt_model.proofs.Scales.{source_most}
 use Rattle.vrt_model.specs.declared.whole.Whole.{Whole}
 
 -- ---- numbers
@@ -52,7 +52,7 @@ models_small n m (inr none) = (let zero : n * (2 * m) ≡ n * (2 * 0) = ap (λ (
 within_work : (l n d h e r m s a o b k v w i : ℕ) → l ≤ 15 → h ≤ n → e ≤ s + s → r ≤ 40 * ((n + 1) * (n + d + 1)) → IsSmall n m
     → b ≤ n * (2 * m) + ((12 * l + 12) * (n * d) + 16 * n + 6 * r) → k ≤ (12 * l + 12) * (n * d) + 12 * n + 6 * r
     → v ≤ 4 * l * (n * d) + (l + 1) * n + (4 * l * (n * d) + (l + 1) * n) → w ≤ 4 * n → i ≤ 22 * o
-    → 2 * h + n + e + 20 * (a + h) + (b + i) + (k + 20 * n) + 2 * s + 3 * w + v ≤ 1000 * (n + 1) * (n + d + 1) + 100 * (s + m + (a + o) + 1)
+    → 2 * h + n + e + 20 * (a + h) + (b + i) + (k + 20 * n) + 2 * s + 4 * w + v ≤ 1000 * (n + 1) * (n + d + 1) + 100 * (s + m + (a + o) + 1)
 within_work l n d h e r m s a o b k v w i level holds elements outputs small bare kept levels wishes lines =
     let x : ℕ = n * d in
     let sq = square n d in

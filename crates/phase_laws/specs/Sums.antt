@@ -14,11 +14,11 @@ use Rattle.vrt_model.specs.declared.whole.Whole.{Whole}
 -- ---- operations
 
 -- of the search of a phase: those that open it, of the steps of the circuit, of the kept circuit, two for each literal and row of the model,
--- and three for each wish
+-- and four for each wish
 abbrev pub search_operations : Comparison → ℕ → PhasePlan → ℕ
 search_operations k phase plan =
     opened_operations k phase + steps_operations (in_comparison k phase plan.parts plan.steps (is_observed k phase))
-    + kept_operations k.circuit plan.kept.list + 2 * model_size k.model + 3 * length plan.wishes
+    + kept_operations k.circuit plan.kept.list + 2 * model_size k.model + 4 * length plan.wishes
 
 -- and those of the levels of output ports, with which it ends
 abbrev pub phase_operations : Comparison → ℕ → PhasePlan → ℕ

@@ -1,8 +1,8 @@
 -- The steps of opening a phase, one behind the other: what they count, and what stays.
-use Rattle.std.proofs.Common.{◌≡◌, ℕ, ◌+◌, ◌*◌, ◌≤◌, List, length, Result, Ok, Err, arith, ap, sym, subst, inr}
+use Rattle.std.proofs.Common.{◌≡◌, ℕ, ◌+◌, ◌*◌, ◌≤◌, List, length, Result, Ok, Err, arith, ap, sym, subst, ◌∙◌, inr}
 use Rattle.std.specs.Prelude.{slice_index}
 use Rattle.node_pool.specs.declared.region.Span.{Span}
-use Rattle.bdd_core.proofs.Frames.{adds_words}
+use Rattle.bdd_core.proofs.Frames.{adds_then, adds_words}
 use Rattle.bdd_core.specs.Store.{Adds, AddsNodes, Diagrams}
 use Rattle.bdd_core.specs.Words.{WritesTwo}
 use Rattle.bdd_core.specs.declared.handle.H.{H}
@@ -11,7 +11,9 @@ use Rattle.bdd_ops.proofs.CountingLaws.{counts_err, counts_more, counts_then, co
 use Rattle.bdd_ops.specs.Counting.{Counts}
 use Rattle.constraints.specs.Cared.{assumed_size}
 use Rattle.phase_open.proofs.OpenLaws.{roots_stay}
+use Rattle.phase_open.specs.Given.{WritesOpened}
 use Rattle.phase_terms.specs.Opened.{AreRootsOpen, opened_operations}
+use Rattle.phase_terms.specs.declared.words.PhaseWords.{PhaseWords}
 use Rattle.vrt_model.specs.Comparison.{Comparison, cell_at}
 use Rattle.vrt_model.specs.Elements.{element_names}
 use Rattle.vrt_model.specs.Held.{sources_of}
@@ -60,3 +62,13 @@ roots_added k phase roots old new len adds are =
       others = λ j p q. ap (λ (ws : List ℕ). slice_index ws j) words;
     } in
     roots_stay none none roots old new writes (inr (omega arith)) (inr (omega arith)) are.live k phase len are
+
+-- the roots are written, nodes are added for the care set, and then the inputs and the held bits of the model are written
+pub opened_writes : (w : PhaseWords) (a b c d : Diagrams) → WritesTwo w.roots w.roots a b → AddsNodes b c → WritesTwo w.inputs w.held c d → WritesOpened w a d
+opened_writes w a b c d first care last =
+    let same : c.words ≡ b.words = adds_words b c b.words care in
+    record {
+      adds = adds_then a c d b.words d.words (adds_then a b c b.words b.words first.adds care) last.adds;
+      len = last.len ∙ ap (λ (ws : List ℕ). length ws) same ∙ first.len;
+      others = λ j roots inputs held. last.others j inputs held ∙ ap (λ (ws : List ℕ). slice_index ws j) same ∙ first.others j roots roots;
+    }

@@ -1,5 +1,5 @@
 -- There are no more wishes of holds than three for each net: no two have the same kind and the same net.
-use Rattle.std.proofs.Common.{◌≡◌, ℕ, zero, suc, ◌+◌, ◌*◌, ◌<◌, ◌≤◌, Bool, false, List, length, Option, None, arith, ap, ap₂, refl, sym, subst, ◌∙◌}
+use Rattle.std.proofs.Common.{◌≡◌, ℕ, zero, suc, ◌+◌, ◌*◌, ◌<◌, ◌≤◌, Bool, true, false, not, List, length, Option, Some, None, arith, ap, ap₂, refl, sym, subst, ◌∙◌}
 use Rattle.std.specs.Prelude.{option_map, slice_get, unwrap_or}
 use Rattle.std.proofs.lemmas.Option.{same_Some}
 use Rattle.bdd_core.proofs.Pigeon.{pigeon}
@@ -52,13 +52,18 @@ numbered kind (suc (suc (suc i)), e) = absurd (at_none i kind e)
 some_bits : Partial
 some_bits n = None
 
-some_assignment : Assignment
+abbrev some_assignment : Assignment
 some_assignment = record { signal = λ s. false; next = λ e. false }
+
+-- there each wish is asked for
+asked_there : (free : Option ℕ) → unwrap_or (option_map (λ (bit : ℕ). not (some_assignment.signal bit)) free) true ≡ true
+asked_there None = refl
+asked_there (Some bit) = refl
 
 module _ (k : Comparison) (phase : ℕ) (wishes : List Wish) (are : AreWishesOf held_kinds k phase wishes) where
   -- a wish of a hold has the place of its net
   place_is : (wish : Wish) → Among wishes wish → wish.place ≡ wish.net.0
-  place_is wish m = by_kind wish.kind (are.only wish m) (are.each wish m some_bits some_assignment)
+  place_is wish m = by_kind wish.kind (are.only wish m) (are.each wish m some_bits some_assignment (asked_there wish.free))
     where
       w : Option Bool
       w = wanted_bit wish.wanted some_bits some_assignment

@@ -1,14 +1,16 @@
 -- The wishes of output ports and those of holds behind them are all; the nets and bits of which they speak are there.
-use Rattle.std.proofs.Common.{◌≡◌, ℕ, zero, suc, ◌<◌, ◌||◌, true, List, ◌++◌, length, arith, length-append, refl, sym, subst, ◌∙◌, inl, inr}
+use Rattle.std.proofs.Common.{◌≡◌, ℕ, zero, suc, ◌<◌, ◌||◌, true, List, Option, Some, None, ◌++◌, length, arith, length-append, refl, sym, subst, ◌∙◌, inl, inr}
 use Rattle.std.specs.Prelude.{All, ◌==◌}
 use Rattle.std.proofs.lemmas.Bool.{eq-eqb, or_left, or_right}
-use Rattle.std.proofs.lemmas.Option.{same_Some}
+use Rattle.std.proofs.lemmas.Option.{none-some, same_Some}
 use Rattle.phase_plan.proofs.FewLaws.{few_held}
 use Rattle.phase_plan.specs.Gives.{AddsHolds, HasWishes}
+use Rattle.phase_ports.proofs.DontCareLaws.{bit_among, free_bits}
 use Rattle.phase_ports.proofs.ObservedLaws.{observed_of}
 use Rattle.phase_ports.specs.Comparisons.{AreFew, IsAtPort}
+use Rattle.phase_ports.specs.DontCares.{AreDontCareBits, HaveBitsOf, bit_of}
 use Rattle.phase_ports.specs.Observed.{has_constrained, has_gate, has_hold, has_whole, has_wish}
-use Rattle.phase_terms.specs.Plans.{IsWantedThere, IsWishThere}
+use Rattle.phase_terms.specs.Plans.{IsFreeThere, IsWantedThere, IsWishThere}
 use Rattle.phase_terms.specs.Ready.{IsReady}
 use Rattle.phase_wishes.proofs.KnownLaws.{hold_nets, hold_observed}
 use Rattle.phase_wishes.proofs.OutputLaws.{output_wishes}
@@ -23,6 +25,7 @@ use Rattle.vrt_model.proofs.Members.{all_among, all_by, among_any, among_either,
 use Rattle.vrt_model.specs.Circuits.{IsHold}
 use Rattle.vrt_model.specs.Comparison.{Comparison, cell_at, is_observed, port_nets}
 use Rattle.vrt_model.specs.Lists.{Among, At}
+use Rattle.vrt_model.specs.declared.flat_model.DontCare.{DontCare}
 
 module _ (k : Comparison) (phase : ℕ) (ready : IsReady k) where
   -- ---- holds
@@ -43,12 +46,28 @@ module _ (k : Comparison) (phase : ℕ) (ready : IsReady k) where
   hold_there wish is = record {
     net = hold_below wish.net.0 is.0;
     wanted = hold_wanted wish.wanted is.1;
+    free = subst (IsFreeThere k) (sym is.2) tt;
     seen = λ n a. hold_observed k phase n (hold_nets k.circuit k.groups wish n is a);
   }
 
   -- ---- output ports
 
-  module _ (outputs : List Wish) (are : AreOutputWishes k phase outputs) (at : All (IsAtPort k.rules (cell_at k.design k.cell)) outputs) where
+  module _ (outputs : List Wish) (are : AreOutputWishes k phase outputs) (at : All (IsAtPort k.rules (cell_at k.design k.cell)) outputs)
+      (table : List (Option ℕ)) (bits : AreDontCareBits k.model table) (have : HaveBitsOf table outputs) where
+    -- a don't-care bit of the table is one of the model's
+    free_there : (wish : Wish) (signal : ℕ) → Among outputs wish → wish.wanted ≡ Signal signal → IsFreeThere k wish.free
+    free_there wish signal m wanted = by_bit wish.free (have wish signal m wanted ∙ bits signal)
+      where
+        by_bit : (o : Option ℕ) → o ≡ bit_of k.model.dontcares signal None → IsFreeThere k o
+        by_bit None e = tt
+        by_bit (Some bit) e =
+            elim (bit_among k.model.dontcares signal bit None (sym e)) [
+              | inl none ↦ absurd (none-some bit none)
+              | inr m ↦
+                  let below = (all_among (λ (d : DontCare). (d.output < length k.model.signals) × (d.bit < length k.model.signals)) k.model.dontcares m.0 ready.model.dontcares m.1).1 in
+                  subst (λ (n : ℕ). n < length k.model.signals) m.2 below
+            ]
+
     output_seen : (wish : Wish) → Among outputs wish → is_observed k phase wish.net.0 ≡ true
     output_seen wish m =
         let n : ℕ = wish.net.0 in
@@ -69,6 +88,7 @@ module _ (k : Comparison) (phase : ℕ) (ready : IsReady k) where
           net = all_among (λ net. net < length k.circuit.nets) (port_nets k.rules (cell_at k.design k.cell).ports) wish.net.0 ready.ports
               (all_among (IsAtPort k.rules (cell_at k.design k.cell)) outputs wish at m);
           wanted = subst (IsWantedThere k) (sym p.4) (ready.outputs wish.place p.0 p.1 p.2.there p.2.role);
+          free = free_there wish p.1 m p.4;
           seen = seen p.1 p.4;
         }
       where
@@ -80,7 +100,7 @@ module _ (k : Comparison) (phase : ℕ) (ready : IsReady k) where
 
     pub wishes_are : AreFew k.rules (cell_at k.design k.cell) outputs → (wishes : List Wish) → AddsHolds k phase outputs wishes → HasWishes k phase wishes
     wishes_are few wishes adds = subst (HasWishes k phase) (sym adds.is) (record {
-      are = all_wishes k phase outputs adds.more (output_wishes k phase outputs are) adds.wishes;
+      are = all_wishes k phase outputs adds.more (output_wishes k phase outputs are (free_bits k table outputs ready.dontcares bits have)) adds.wishes;
       there = all_by (IsWishThere k phase) (outputs ++ adds.more)
           (λ wish m. elim (among_either outputs adds.more wish m) [ inl p ↦ output_there wish p | inr q ↦ hold_there wish (held wish q) ]);
       few =

@@ -5,7 +5,7 @@ ghost use Rattle.phase_plan.specs.Gives.{AddsHolds, HasWishes};
 ghost use Rattle.phase_terms.specs.Ready.{IsReady, comparison_in};
 ghost use Rattle.rule_index.specs.Tables.{AreRuleTables};
 
-use phase_ports::output_wishes;
+use phase_ports::{dontcare_bits, output_wishes};
 use phase_terms::Comparison;
 use phase_wishes::{Wish, hold_wishes};
 use rule_index::RuleIndex;
@@ -44,8 +44,8 @@ fn add_holds(
     add_wishes(wishes, more.as_slice())
 }
 
-/// All that nets ought to be given: the output ports that are observed in the phase the bits of their signals, and behind them
-/// what the holds ought to be given.
+/// All that nets ought to be given: the output ports that are observed in the phase the bits of their signals, where these are not free,
+/// and behind them what the holds ought to be given.
 pub(crate) fn wishes_of(
     alloc: Global,
     index: &RuleIndex,
@@ -56,6 +56,7 @@ pub(crate) fn wishes_of(
     requires tables { AreRuleTables compared.rules.now index.now }
     ensures { IfOk result (HasWishes (comparison_in compared.entry) phase) }
 {
+    let bits = dontcare_bits(alloc, compared.model)?;
     let mut wishes = output_wishes(
         alloc,
         index,
@@ -64,6 +65,7 @@ pub(crate) fn wishes_of(
         compared.cell,
         compared.pairing,
         phase,
+        bits.as_slice(),
     )?;
     add_holds(&mut wishes, alloc, compared, phase)?;
     Ok(wishes)

@@ -1,4 +1,5 @@
 pub mod ConstrainedLaws
+pub mod DontCareLaws
 pub mod ObservedLaws
 pub mod PortLaws
 pub mod RangeLaws

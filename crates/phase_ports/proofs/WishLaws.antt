@@ -1,10 +1,11 @@
 -- What output ports ought to have that are observed: in the order of the ports, each once.
 use Rattle.std.proofs.Common.{◌≡◌, ℕ, zero, suc, ◌+◌, ◌-◌, ◌<◌, ◌≤◌, Bool, true, false, cond, List, [], ◌∷◌, length, map, Option, Some, None, zero-add, arith, ap, refl, sym, subst, ◌∙◌}
-use Rattle.std.specs.Prelude.{All, filter_map, option_and_then, slice_get}
+use Rattle.std.specs.Prelude.{All, filter_map, get_or, option_and_then, slice_get}
 use Rattle.std.specs.List.{cons_option}
 use Rattle.std.proofs.lemmas.Option.{none-some, same_Some}
 use Rattle.phase_ports.proofs.PortLaws.{name_is, net_is, place_is, ports_shown}
 use Rattle.phase_ports.specs.Comparisons.{AreFew, ArePortsWithin, IsAtPort, IsOfCell}
+use Rattle.phase_ports.specs.DontCares.{HaveBitsOf}
 use Rattle.phase_ports.specs.Ports.{net_by, next_by, port_at, ports_by, supply_bit, unnamed}
 use Rattle.phase_ports.specs.Seen.{output_wish, seen_wish}
 use Rattle.phase_ports.specs.declared.port_list.Port.{Port}
@@ -28,8 +29,11 @@ use Rattle.vrt_model.specs.declared.verdict.FaultKind.TheVariants.{Differs}
 
 -- ---- one output
 
+same_signal : (s t : ℕ) → Signal s ≡ Signal t → s ≡ t
+same_signal s t e = cc
+
 -- a wish of a port that is an output, observed in the phase
-pub record IsWishAt (rules : Rules) (cell : Cell) (phase : ℕ) (p : Port) (o : Wish) : Type 0 where
+pub record IsWishAt (rules : Rules) (cell : Cell) (phase : ℕ) (bits : List (Option ℕ)) (p : Port) (o : Wish) : Type 0 where
   pub name : List ℕ
   pub named : slice_get cell.ports p.place ≡ Some name
   pub signal : ℕ
@@ -39,15 +43,16 @@ pub record IsWishAt (rules : Rules) (cell : Cell) (phase : ℕ) (p : Port) (o : 
   pub net : o.net.0 ≡ p.net
   pub kind : o.kind ≡ Differs
   pub wanted : o.wanted ≡ Signal signal
+  pub free : o.free ≡ get_or bits signal None
 
-pub seen_some : (rules : Rules) (cell : Cell) (phase : ℕ) (p : Port) (o : Wish) → seen_wish rules cell phase p ≡ Some o → IsWishAt rules cell phase p o
-seen_some rules cell phase p o e = by_signal (output_signal p.role) refl e
+pub seen_some : (rules : Rules) (cell : Cell) (phase : ℕ) (bits : List (Option ℕ)) (p : Port) (o : Wish) → seen_wish rules cell phase bits p ≡ Some o → IsWishAt rules cell phase bits p o
+seen_some rules cell phase bits p o e = by_signal (output_signal p.role) refl e
   where
     by_test : (signal : ℕ) (name : List ℕ) → output_signal p.role ≡ Some signal → slice_get cell.ports p.place ≡ Some name
-        → (b : Bool) → is_observed_port rules cell.name name phase ≡ b → cond b (Some (output_wish p signal)) None ≡ Some o → IsWishAt rules cell phase p o
+        → (b : Bool) → is_observed_port rules cell.name name phase ≡ b → cond b (Some (output_wish p signal (get_or bits signal None))) None ≡ Some o → IsWishAt rules cell phase bits p o
     by_test signal name role named false seen e = absurd (none-some o e)
     by_test signal name role named true seen e =
-        let same : output_wish p signal ≡ o = same_Some (output_wish p signal) o e in
+        let same : output_wish p signal (get_or bits signal None) ≡ o = same_Some (output_wish p signal (get_or bits signal None)) o e in
         record {
           name = name;
           named = named;
@@ -58,24 +63,25 @@ seen_some rules cell phase p o e = by_signal (output_signal p.role) refl e
           net = sym (ap (λ (x : Wish). x.net.0) same);
           kind = sym (ap (λ (x : Wish). x.kind) same);
           wanted = sym (ap (λ (x : Wish). x.wanted) same);
+          free = sym (ap (λ (x : Wish). x.free) same);
         }
 
     by_name : (signal : ℕ) → output_signal p.role ≡ Some signal → (n : Option (List ℕ)) → slice_get cell.ports p.place ≡ n
-        → option_and_then (λ (name : List ℕ). cond (is_observed_port rules cell.name name phase) (Some (output_wish p signal)) None) n ≡ Some o → IsWishAt rules cell phase p o
+        → option_and_then (λ (name : List ℕ). cond (is_observed_port rules cell.name name phase) (Some (output_wish p signal (get_or bits signal None))) None) n ≡ Some o → IsWishAt rules cell phase bits p o
     by_name signal role None named e = absurd (none-some o e)
     by_name signal role (Some name) named e = by_test signal name role named (is_observed_port rules cell.name name phase) refl e
 
     by_signal : (s : Option ℕ) → output_signal p.role ≡ s
-        → option_and_then (λ (signal : ℕ). option_and_then (λ (name : List ℕ). cond (is_observed_port rules cell.name name phase) (Some (output_wish p signal)) None) (slice_get cell.ports p.place)) s ≡ Some o
-        → IsWishAt rules cell phase p o
+        → option_and_then (λ (signal : ℕ). option_and_then (λ (name : List ℕ). cond (is_observed_port rules cell.name name phase) (Some (output_wish p signal (get_or bits signal None))) None) (slice_get cell.ports p.place)) s ≡ Some o
+        → IsWishAt rules cell phase bits p o
     by_signal None role e = absurd (none-some o e)
     by_signal (Some signal) role e = by_name signal role (slice_get cell.ports p.place) refl e
 
-some_seen : (rules : Rules) (cell : Cell) (phase : ℕ) (p : Port) (signal : ℕ) (name : List ℕ) → output_signal p.role ≡ Some signal → slice_get cell.ports p.place ≡ Some name
-    → is_observed_port rules cell.name name phase ≡ true → seen_wish rules cell phase p ≡ Some (output_wish p signal)
-some_seen rules cell phase p signal name role named seen =
-    let of_test : Bool → Option Wish = λ b. cond b (Some (output_wish p signal)) None in
-    let of_name : ℕ → List ℕ → Option Wish = λ s n. cond (is_observed_port rules cell.name n phase) (Some (output_wish p s)) None in
+some_seen : (rules : Rules) (cell : Cell) (phase : ℕ) (bits : List (Option ℕ)) (p : Port) (signal : ℕ) (name : List ℕ) → output_signal p.role ≡ Some signal → slice_get cell.ports p.place ≡ Some name
+    → is_observed_port rules cell.name name phase ≡ true → seen_wish rules cell phase bits p ≡ Some (output_wish p signal (get_or bits signal None))
+some_seen rules cell phase bits p signal name role named seen =
+    let of_test : Bool → Option Wish = λ b. cond b (Some (output_wish p signal (get_or bits signal None))) None in
+    let of_name : ℕ → List ℕ → Option Wish = λ s n. cond (is_observed_port rules cell.name n phase) (Some (output_wish p s (get_or bits s None))) None in
     ap (λ (s : Option ℕ). option_and_then (λ (x : ℕ). option_and_then (of_name x) (slice_get cell.ports p.place)) s) role
     ∙ ap (λ (n : Option (List ℕ)). option_and_then (of_name signal) n) named ∙ ap of_test seen
 
@@ -115,7 +121,7 @@ rises F places at (x ∷ xs) has i j a b p q lt =
     by_first rest (Some y) e (suc i) zero a b p q lt = absurd (omega (arith, lt))
     by_first rest (Some y) e (suc i) (suc j) a b p q lt = rest i j a b p q (omega (arith, lt))
 
-module _ (k : Comparison) (phase : ℕ) (ports : List Port) (shown : ports ≡ map unnamed (ports_of k)) where
+module _ (k : Comparison) (phase : ℕ) (bits : List (Option ℕ)) (ports : List Port) (shown : ports ≡ map unnamed (ports_of k)) where
   abbrev own : Cell
   own = cell_at k.design k.cell
 
@@ -123,7 +129,7 @@ module _ (k : Comparison) (phase : ℕ) (ports : List Port) (shown : ports ≡ m
   nets = port_nets k.rules own.ports
 
   abbrev F : Port → Option Wish
-  F = seen_wish k.rules own phase
+  F = seen_wish k.rules own phase bits
 
   -- a port of the list is one of the cell
   port_of : (j : ℕ) (p : Port) → At ports j p → (port : CellPort) × At (ports_of k) j port × (unnamed port ≡ p)
@@ -143,7 +149,7 @@ module _ (k : Comparison) (phase : ℕ) (ports : List Port) (shown : ports ≡ m
       let z : Port = m.0 in
       let at = port_of j z m.1.1 in
       let port : CellPort = at.0 in
-      let s : IsWishAt k.rules own phase z o = seen_some k.rules own phase z o m.2 in
+      let s : IsWishAt k.rules own phase bits z o = seen_some k.rules own phase bits z o m.2 in
       let place : o.place ≡ j = s.place ∙ has_places j z m.1.1 ∙ zero-add j in
       let name : Some s.name ≡ Some port.name =
       sym s.named ∙ (ap (λ (n : ℕ). slice_get own.ports n) (sym s.place ∙ place) ∙ name_is 0 own.ports nets k.pairing.ports j port at.1) in (
@@ -165,28 +171,28 @@ module _ (k : Comparison) (phase : ℕ) (ports : List Port) (shown : ports ≡ m
       let there : At ports at (unnamed port) = ap (λ (xs : List Port). slice_get xs at) shown ∙ map_at unnamed (ports_of k) at port seen.there in
       let named : slice_get own.ports port.place ≡ Some port.name =
       ap (λ (n : ℕ). slice_get own.ports n) place ∙ name_is 0 own.ports nets k.pairing.ports at port seen.there in
-      let m = filter_map_among F ports at (unnamed port) (output_wish (unnamed port) signal) there
-      (some_seen k.rules own phase (unnamed port) signal port.name seen.role named seen.seen) in
-      (output_wish (unnamed port) signal, m, place)
+      let m = filter_map_among F ports at (unnamed port) (output_wish (unnamed port) signal (get_or bits signal None)) there
+      (some_seen k.rules own phase bits (unnamed port) signal port.name seen.role named seen.seen) in
+      (output_wish (unnamed port) signal (get_or bits signal None), m, place)
 
   pub wishes_are : AreOutputWishes k phase (filter_map F ports)
   wishes_are = record {
     kinds = λ o among.
         let m = among_filter_map F ports o among in
-        (seen_some k.rules own phase m.0 o m.2).kind;
+        (seen_some k.rules own phase bits m.0 o m.2).kind;
     each = each;
     all = all;
-    rising = rises F (λ p o e. (seen_some k.rules own phase p o e).place) 0 ports has_places;
+    rising = rises F (λ p o e. (seen_some k.rules own phase bits p o e).place) 0 ports has_places;
   }
 
 -- ---- in each comparison of a cell
 
-module _ (design : Design) (rules : Rules) (cell : ℕ) (pairing : Pairing) (phase : ℕ) (roles : HasRoles rules (cell_at design cell) pairing) where
+module _ (design : Design) (rules : Rules) (cell : ℕ) (pairing : Pairing) (phase : ℕ) (bits : List (Option ℕ)) (roles : HasRoles rules (cell_at design cell) pairing) where
   abbrev of_cell : Cell
   of_cell = cell_at design cell
 
   abbrev found : List Wish
-  found = filter_map (seen_wish rules of_cell phase) (ports_by 0 2 pairing.ports)
+  found = filter_map (seen_wish rules of_cell phase bits) (ports_by 0 2 pairing.ports)
 
   abbrev all_ports : Design → Rules → ℕ → Pairing → List CellPort
   all_ports d r c p = (let names = (cell_at d c).ports in ports_from 0 names (port_nets r names) p.ports)
@@ -199,34 +205,41 @@ module _ (design : Design) (rules : Rules) (cell : ℕ) (pairing : Pairing) (pha
       ∙ ap (λ (c : ℕ). map unnamed (all_ports k.design k.rules c pairing)) (sym is.cell_is)
       ∙ ap (λ (p : Pairing). map unnamed (all_ports k.design k.rules k.cell p)) (sym is.pairing_is)
 
-  found_in : (k : Comparison) → IsOfCell design rules cell pairing k → filter_map (seen_wish k.rules (cell_at k.design k.cell) phase) (ports_by 0 2 pairing.ports) ≡ found
+  found_in : (k : Comparison) → IsOfCell design rules cell pairing k → filter_map (seen_wish k.rules (cell_at k.design k.cell) phase bits) (ports_by 0 2 pairing.ports) ≡ found
   found_in k is =
-      ap (λ (r : Rules). filter_map (seen_wish r (cell_at k.design k.cell) phase) (ports_by 0 2 pairing.ports)) is.rules_are
-      ∙ ap (λ (d : Design). filter_map (seen_wish rules (cell_at d k.cell) phase) (ports_by 0 2 pairing.ports)) is.design_is
-      ∙ ap (λ (c : ℕ). filter_map (seen_wish rules (cell_at design c) phase) (ports_by 0 2 pairing.ports)) is.cell_is
+      ap (λ (r : Rules). filter_map (seen_wish r (cell_at k.design k.cell) phase bits) (ports_by 0 2 pairing.ports)) is.rules_are
+      ∙ ap (λ (d : Design). filter_map (seen_wish rules (cell_at d k.cell) phase bits) (ports_by 0 2 pairing.ports)) is.design_is
+      ∙ ap (λ (c : ℕ). filter_map (seen_wish rules (cell_at design c) phase bits) (ports_by 0 2 pairing.ports)) is.cell_is
 
   pub found_are : (k : Comparison) → IsOfCell design rules cell pairing k → AreOutputWishes k phase found
   found_are k is =
-      subst (λ (ws : List Wish). AreOutputWishes k phase ws) (found_in k is) (wishes_are k phase (ports_by 0 2 pairing.ports) (shown_in k is))
+      subst (λ (ws : List Wish). AreOutputWishes k phase ws) (found_in k is) (wishes_are k phase bits (ports_by 0 2 pairing.ports) (shown_in k is))
 
   -- each wish is at the net of a port
   pub found_at : All (IsAtPort rules of_cell) found
   found_at = all_by (IsAtPort rules of_cell) found at_port where
     at_port : (o : Wish) → Among found o → IsAtPort rules of_cell o
     at_port o among =
-        let m = among_filter_map (seen_wish rules of_cell phase) (ports_by 0 2 pairing.ports) o among in
+        let m = among_filter_map (seen_wish rules of_cell phase bits) (ports_by 0 2 pairing.ports) o among in
         let names = of_cell.ports in
         let at = at_map unnamed (ports_from 0 names (port_nets rules names) pairing.ports) m.1.0 m.0
         (ap (λ (xs : List Port). slice_get xs m.1.0) (sym (ports_shown rules of_cell pairing roles)) ∙ m.1.1) in
-        let net : at.0.net ≡ o.net.0 = ap (λ (x : Port). x.net) at.2 ∙ sym (seen_some rules of_cell phase m.0 o m.2).net in
+        let net : at.0.net ≡ o.net.0 = ap (λ (x : Port). x.net) at.2 ∙ sym (seen_some rules of_cell phase bits m.0 o m.2).net in
         (m.1.0, net_is 0 names (port_nets rules names) pairing.ports m.1.0 at.0 at.1 ∙ ap (λ (n : ℕ). Some n) net)
+
+  -- each wish has the bit that the table has
+  pub found_bits : HaveBitsOf bits found
+  found_bits wish signal among wanted =
+      let m = among_filter_map (seen_wish rules of_cell phase bits) (ports_by 0 2 pairing.ports) wish among in
+      let s = seen_some rules of_cell phase bits m.0 wish m.2 in
+      s.free ∙ ap (λ (n : ℕ). get_or bits n None) (same_signal s.signal signal (sym s.wanted ∙ wanted))
 
   -- the wishes that are collected from what is read
   pub found_is : (cell_read : Cell) (read : List PortRole) (made walked : List Port) (items : List Wish) → cell_read ≡ of_cell → read ≡ pairing.ports
-      → made ≡ ports_by 0 2 read → walked ≡ made → items ≡ filter_map (seen_wish rules cell_read phase) walked → found ≡ items
+      → made ≡ ports_by 0 2 read → walked ≡ made → items ≡ filter_map (seen_wish rules cell_read phase bits) walked → found ≡ items
   found_is cell_read read made walked items cs rs ms ws is =
-      sym (is ∙ ap (λ (c : Cell). filter_map (seen_wish rules c phase) walked) cs
-      ∙ ap (λ (xs : List Port). filter_map (seen_wish rules of_cell phase) xs) (ws ∙ ms ∙ ap (ports_by 0 2) rs))
+      sym (is ∙ ap (λ (c : Cell). filter_map (seen_wish rules c phase bits) walked) cs
+      ∙ ap (λ (xs : List Port). filter_map (seen_wish rules of_cell phase bits) xs) (ws ∙ ms ∙ ap (ports_by 0 2) rs))
 
 -- wishes at the nets of ports are at nets of the circuit
 pub wishes_within : (rules : Rules) (cell : Cell) (circuit : Circuit) (wishes : List Wish) → All (IsAtPort rules cell) wishes → ArePortsWithin rules cell circuit
@@ -283,17 +296,17 @@ module _ (F : Port → Option Wish) (count : ℕ) (net : (p : Port) (o : Wish) �
           let rest : List Wish = filter_map F (ports_by (place + 1) next roles) in
           few_supply p value rest next (F p) refl is (few next (below_behind (F p) rest below))
 
-module _ (design : Design) (rules : Rules) (cell : ℕ) (pairing : Pairing) (phase : ℕ) (roles : HasRoles rules (cell_at design cell) pairing) where
+module _ (design : Design) (rules : Rules) (cell : ℕ) (pairing : Pairing) (phase : ℕ) (bits : List (Option ℕ)) (roles : HasRoles rules (cell_at design cell) pairing) where
   abbrev own_cell : Cell
   own_cell = cell_at design cell
 
   abbrev the_wishes : List Wish
-  the_wishes = filter_map (seen_wish rules own_cell phase) (ports_by 0 2 pairing.ports)
+  the_wishes = filter_map (seen_wish rules own_cell phase bits) (ports_by 0 2 pairing.ports)
 
   pub found_few : AreFew rules own_cell the_wishes
   found_few circuit within =
-      let at = wishes_within rules own_cell circuit the_wishes (found_at design rules cell pairing phase roles) within in
-      let few = few_by (seen_wish rules own_cell phase) (length circuit.nets) (λ p o e. (seen_some rules own_cell phase p o e).net)
-      (λ p o value e is. (let s = seen_some rules own_cell phase p o e in no_output p.role value s.signal is s.role)) 0 2 pairing.ports
+      let at = wishes_within rules own_cell circuit the_wishes (found_at design rules cell pairing phase bits roles) within in
+      let few = few_by (seen_wish rules own_cell phase bits) (length circuit.nets) (λ p o e. (seen_some rules own_cell phase bits p o e).net)
+      (λ p o value e is. (let s = seen_some rules own_cell phase bits p o e in no_output p.role value s.signal is s.role)) 0 2 pairing.ports
       (λ o m. all_among (λ (w : Wish). w.net.0 < length circuit.nets) the_wishes o at m) in
       omega (arith, few)

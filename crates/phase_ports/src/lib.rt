@@ -2,6 +2,7 @@
 //! circuit, with devices, holds, instances and whole instances.
 #![tactic(auto)]
 
+mod dontcares;
 mod instances;
 mod laws;
 mod marks;
@@ -10,6 +11,7 @@ mod observed;
 mod outputs;
 mod port_list;
 
+pub use dontcares::dontcare_bits;
 pub use laws::ports_within;
 pub use observe_lines::is_observed_port;
 pub use observed::{marked_nets, observed_nets};

@@ -81,6 +81,6 @@ pub fn observed_nets(
     ensures len { IfOk result (λ marks. length marks.items ≡ length circuit.now.nets) }
     ensures is { IfOk result (λ marks. AreMarksOf design.now rules.now cell circuit.now pairing.now phase marks.items) }
 {
-    let outputs = output_wishes(alloc, index, design, rules, cell, pairing, phase)?;
+    let outputs = output_wishes(alloc, index, design, rules, cell, pairing, phase, &[])?;
     marked_nets(alloc, index, design, circuit, outputs.as_slice())
 }

@@ -1,5 +1,5 @@
 -- A circuit that passes all tests is well formed.
-use Rattle.std.proofs.Common.{◌≡◌, ◌≢◌, ℕ, zero, suc, ◌≤◌, All, List, [], ◌∷◌, length, arith, ap, refl, sym, subst, ◌∙◌}
+use Rattle.std.proofs.Common.{◌≡◌, ◌≢◌, ℕ, zero, suc, ◌≤◌, ◌⊎◌, All, List, [], ◌∷◌, length, arith, ap, refl, sym, subst, ◌∙◌}
 use Rattle.std.proofs.lemmas.Option.{none-some, same_Some}
 use Rattle.phase_rows.specs.Apart.{AreApart}
 use Rattle.vrt_model.proofs.Members.{all_among}
@@ -25,9 +25,10 @@ once (x ∷ xs) apart zero (suc j) g h at there same = absurd (not_first x xs j 
 once (x ∷ xs) apart (suc i) zero g h at there same = absurd (not_first x xs i h g apart there at (sym same))
 once (x ∷ xs) apart (suc i) (suc j) g h at there same = ap suc (once xs apart.1 i j g h at there same)
 
-pub circuit_is : (c : Circuit) → length c.nets ≤ 20000 → length c.devices ≤ 40000 → length c.instances ≤ 40000 → IsFlat c
+pub circuit_is : (c : Circuit) → (c.source ≡ 8) ⊎ (c.source ≡ 15) → length c.nets ≤ 20000 → length c.devices ≤ 40000 → length c.instances ≤ 40000 → IsFlat c
     → All (λ (i : FlatInstance). All (IsNet c) i.ports) c.instances → AreApart c.holds → IsCircuit c
-circuit_is c nets devices instances flat ports apart = record {
+circuit_is c source nets devices instances flat ports apart = record {
+  source = source;
   net_limit = nets;
   device_limit = devices;
   instance_limit = instances;

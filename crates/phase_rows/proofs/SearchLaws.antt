@@ -71,7 +71,7 @@ module _ (design : Design) (rules : Rules) (c : Circuit) (phase : Phase) (number
     cell = 0;
     pairing = record { model = 0; ports = []; clocked = [] };
     circuit = c;
-    model = record { signals = []; inputs = []; clocks = []; outputs = []; covers = []; latches = [] };
+    model = record { signals = []; inputs = []; clocks = []; outputs = []; covers = []; latches = []; dontcares = [] };
     groups = [];
   }
 

@@ -1,6 +1,6 @@
 //! Whether what the lines give meets the conditions of the calls.
 
-ghost use Rattle.std.specs.Prelude.{◌≡◌, ◌≢◌, ◌<◌, All, IsTrue, length, true};
+ghost use Rattle.std.specs.Prelude.{◌≡◌, ◌≢◌, ◌<◌, ◌⊎◌, All, IsTrue, length, true};
 ghost use Rattle.bdd_core.specs.Store.{IsSpan};
 ghost use Rattle.bdd_core.specs.Words.{IsFilled};
 ghost use Rattle.phase_rows.specs.Apart.{AreApart};
@@ -52,11 +52,21 @@ fn are_apart(circuit: &Circuit) -> bool
     true
 }
 
+/// Whether the level of sources is that of one of the scales.
+fn has_source(circuit: &Circuit) -> bool
+    ensures { IsTrue result → (circuit.now.source ≡ 8) ⊎ (circuit.now.source ≡ 15) }
+{
+    circuit.source == 8 || circuit.source == 15
+}
+
 /// Whether a circuit is well formed.
 #[tactic(auto, using(crate::proofs::CircuitLaws::circuit_is))]
 pub(crate) fn is_circuit(circuit: &Circuit) -> bool
     ensures { IsTrue result → IsCircuit circuit.now }
 {
+    if !has_source(circuit) {
+        return false;
+    }
     if circuit.nets.len() > 20000 {
         return false;
     }

@@ -31,6 +31,7 @@ pub(crate) fn empty(alloc: Global) -> Circuit {
         holds: Seq::new(alloc),
         instances: Seq::new(alloc),
         wholes: Seq::new(alloc),
+        source: 8,
     }
 }
 

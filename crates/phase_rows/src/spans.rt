@@ -12,7 +12,7 @@ use bdd_core::Store;
 use channel_parts::Parts;
 use circuit_faults::KeptSpans;
 use node_pool::Span;
-use path_fixpoint::{net_words, source_level};
+use path_fixpoint::net_words;
 use vrt_model::Circuit;
 
 /// The most nets of a circuit whose faults are told.
@@ -27,7 +27,7 @@ fn part_words(circuit: &Circuit) -> u32
     ensures words { result ≡ net_words (source_level circuit.now) * length circuit.now.nets }
     ensures few { result ≤ 12850 }
 {
-    net_words(source_level(circuit)) * circuit.nets.len() as u32
+    net_words(circuit.source_level()) * circuit.nets.len() as u32
 }
 
 /// How many words the nets of a circuit take.

@@ -1,5 +1,5 @@
 -- What is made before a phase is looked through.
-use Rattle.std.specs.Prelude.{◌≡◌, ℕ, ◌+◌, ◌*◌, ◌<◌, ◌≤◌, ◌++◌, All, Bool, true, false, List, length, flat_map, map, sum_by, Option}
+use Rattle.std.specs.Prelude.{◌≡◌, ℕ, ◌+◌, ◌*◌, ◌<◌, ◌≤◌, ◌++◌, All, Bool, true, false, List, length, flat_map, map, sum_by, Option, Some, None}
 use Rattle.blif_eval.specs.Plans.{IsPlan, entry_of}
 use Rattle.channel_parts.specs.PartLists.{AreParts, IsPartList}
 use Rattle.channel_parts.specs.declared.part.Parts.{Parts}
@@ -51,10 +51,16 @@ IsWantedThere k (Element element inverted) = element < length (element_names k.m
 IsWantedThere k (Other net inverted) = net.0 < length k.circuit.nets
 IsWantedThere k (Constant v) = Unit {0}
 
--- the net of a wish and what is wanted are there, and the nets of which it speaks are observed
+-- a don't-care bit is that of a signal that is there
+abbrev pub IsFreeThere : Comparison → Option ℕ → Type 0
+IsFreeThere k None = Unit {0}
+IsFreeThere k (Some bit) = bit < length k.model.signals
+
+-- the net of a wish, what is wanted and its don't-care bit are there, and the nets of which it speaks are observed
 pub record IsWishThere (k : Comparison) (phase : ℕ) (wish : Wish) : Type 0 where
   pub net : wish.net.0 < length k.circuit.nets
   pub wanted : IsWantedThere k wish.wanted
+  pub free : IsFreeThere k wish.free
   pub seen : (n : ℕ) → Among (nets_of wish) n → is_observed k phase n ≡ true
 
 -- ---- the plan

@@ -4,6 +4,7 @@ use Rattle.circuit_faults.specs.Keys.{HasAllPorts}
 use Rattle.circuit_faults.specs.Wholes.{HasSoundWholes}
 use Rattle.constraints.specs.Obliged.{AreNamed}
 use Rattle.hold_groups.specs.Grouped.{AreGroups}
+use Rattle.phase_wishes.specs.Wishes.{HasOneBitEach}
 use Rattle.phase_terms.specs.declared.compared.Comparison.{Comparison as CellComparison}
 use Rattle.vrt_model.specs.Assignment.{Tied}
 use Rattle.vrt_model.specs.Circuits.{IsCircuit}
@@ -61,14 +62,15 @@ pub record IsNamedInstance (k : Comparison) (i : FlatInstance) : Type 0 where
   pub named : AreNamed k.rules (cell_at k.design i.cell)
 
 -- A comparison of a well-formed circuit with a well-formed model: each output of a whole instance is at a plain net and follows in
--- each phase from observed inputs that are linked to it, the ports pair, each hold is in one group, and what lines and groups name is
--- there. It may have instances, holds, latches, keepers and constraints.
+-- each phase from observed inputs that are linked to it, the ports pair, each hold is in one group, no output has two don't-care bits,
+-- and what lines and groups name is there. It may have instances, holds, latches, keepers and constraints.
 pub record IsReady (k : Comparison) : Type 0 where
   pub rules : AreRules k.rules
   pub cell : k.cell < length k.design.cells
   pub circuit : IsCircuit k.circuit
   pub wholes : (phase : ℕ) → phase < length k.rules.phases → HasSoundWholes k.circuit (phase_at k.rules phase) (is_observed k phase)
   pub model : IsFlatModel k.model
+  pub dontcares : HasOneBitEach k.model
   pub roles : HasRoles k.rules (cell_at k.design k.cell) k.pairing
   pub ports : All (λ net. net < length k.circuit.nets) (port_nets k.rules (cell_at k.design k.cell).ports)
   pub outputs : (at : ℕ) (port : CellPort) (signal : ℕ) → At (ports_of k) at port → output_signal port.role ≡ Some signal → signal < length k.model.signals

@@ -15,7 +15,7 @@ use Rattle.vrt_model.specs.declared.verdict.FaultKind.{FaultKind}
 
 module _ (kind : FaultKind) where
   abbrev pub wish_at : ℕ → Wanted → Wish
-  wish_at n w = let net : Net = record { 0 = n } in let wish : Wish = record { kind = kind; place = n; net = net; wanted = w } in wish
+  wish_at n w = let net : Net = record { 0 = n } in let wish : Wish = record { kind = kind; place = n; net = net; wanted = w; free = None } in wish
 
   from_among : (n : ℕ) (t : List (Option Wanted)) (wish : Wish) → Among (wishes_from kind n t) wish → (i : ℕ) × (w : Wanted) × (entry t i ≡ Some w) × (wish ≡ wish_at (n + i) w)
   from_among n [] wish m = absurd (at_none m.0 wish m.1)

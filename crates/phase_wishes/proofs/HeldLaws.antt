@@ -54,13 +54,14 @@ module _ (kind : FaultKind) (stage : ℕ) (k : Comparison) (phase : ℕ) (Is : �
           place_is = sym r.0;
           net_is = refl;
           wanted_is = ap (λ (x : Wanted). wanted_bit x a g) (one n there.0 r.2 (entry_is Is (length k.circuit.nets) table puts n there.0 there.1) r.3) ∙ r.4;
+          asked_is = refl;
         },
       )
 
   pub table_wishes : AreWishesOf (kind ∷ []) k phase (wishes_from kind 0 table)
   table_wishes = record {
     only = λ wish m. (0, ap Some (sym (kind_in kind Is (length k.circuit.nets) table puts wish m)));
-    each = λ wish m. let r = from_table kind Is (length k.circuit.nets) table puts wish m in subst (IsWish k phase) (sym r.3) (λ a g. wants r.0 r.1 r.2 a g);
+    each = λ wish m. let r = from_table kind Is (length k.circuit.nets) table puts wish m in subst (IsWish k phase) (sym r.3) (λ a g asked. wants r.0 r.1 r.2 a g);
     all = all_of;
     sorted = λ rank least i j x y here there lt.
         ap₂ (λ (p q : List ℕ). comes_before p q) (key_of rank least x (i, here)) (key_of rank least y (j, there))
@@ -208,7 +209,7 @@ module _ (c : Circuit) (groups : List Group) where
   table_known : (kind : FaultKind) (Is : ℕ → Wanted → Type 0) (table : List (Option Wanted)) → Puts Is (replicate (length c.nets) None) table
       → ((n : ℕ) (x : Wanted) → Is n x → IsHoldNet c n × IsOfHold c groups x) → (wish : Wish) → Among (wishes_from kind 0 table) wish → IsHoldWish c groups wish
   table_known kind Is table puts known wish m =
-      let r = from_table kind Is (length c.nets) table puts wish m in subst (IsHoldWish c groups) (sym r.3) (known r.0 r.1 r.2)
+      let r = from_table kind Is (length c.nets) table puts wish m in let is = known r.0 r.1 r.2 in subst (IsHoldWish c groups) (sym r.3) (is.0, is.1, refl)
 
   stored_known : (stored : Stored) (n : ℕ) (x : Wanted) → IsOfGroups c stored groups n x → IsHoldNet c n × IsOfHold c groups x
   stored_known Latches n x p =

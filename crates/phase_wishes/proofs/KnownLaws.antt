@@ -1,11 +1,11 @@
 -- Of which nets the wishes of holds speak.
-use Rattle.std.proofs.Common.{◌≡◌, ℕ, zero, suc, ◌<◌, ◌≤◌, ◌&&◌, ◌||◌, true, All, length, List, Some, eqb, arith, subst}
+use Rattle.std.proofs.Common.{◌≡◌, ℕ, zero, suc, ◌<◌, ◌≤◌, ◌&&◌, ◌||◌, true, All, length, List, Some, eqb, arith, subst, sym}
 use Rattle.std.specs.Prelude.{is_some}
 use Rattle.std.specs.List.{list_any}
 use Rattle.std.proofs.lemmas.Bool.{eq-eqb, or_left, or_right}
 use Rattle.std.proofs.lemmas.Option.{same_Some}
 use Rattle.phase_wishes.specs.Held.{IsHoldNet, IsHoldWish, IsOfHold}
-use Rattle.phase_wishes.specs.Missed.{IsInside, IsWithinBits, nets_in, nets_of}
+use Rattle.phase_wishes.specs.Missed.{IsFreeInside, IsInside, IsWithinBits, nets_in, nets_of}
 use Rattle.phase_wishes.specs.declared.wishes.Wanted.{Wanted}
 use Rattle.phase_wishes.specs.declared.wishes.Wanted.TheVariants.{Signal, Element, Other, Constant}
 use Rattle.phase_wishes.specs.declared.wishes.Wish.{Wish}
@@ -54,7 +54,7 @@ hold_nets c groups wish n is (suc i, e) = other wish.wanted is.1 (i, e)
 pub hold_inside : (c : Circuit) (groups : List Group) (bits : WishBits) (wishes : List Wish) → IsCircuit c → length c.nets ≤ bits.gates.len
     → ((group : Group) (e : ℕ) → Among groups group → group.element ≡ Some e → e < bits.next.len) → All (IsHoldWish c groups) wishes → All (IsWithinBits bits) wishes
 hold_inside c groups bits wishes circuit nets elements all =
-    all_by (IsWithinBits bits) wishes (λ wish m. let is = all_among (IsHoldWish c groups) wishes wish all m in (low wish.net.0 is.0, inside wish.wanted is.1))
+    all_by (IsWithinBits bits) wishes (λ wish m. let is = all_among (IsHoldWish c groups) wishes wish all m in (low wish.net.0 is.0, inside wish.wanted is.1, subst (IsFreeInside bits) (sym is.2) tt))
   where
     low : (n : ℕ) → IsHoldNet c n → n < bits.gates.len
     low n hold = let below = (all_among (IsHold c) c.holds hold.0 circuit.holds hold.1).net in let is = hold.2 in omega (arith, below, is, nets)

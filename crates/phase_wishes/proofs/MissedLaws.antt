@@ -1,11 +1,12 @@
 -- Where one wish is missed, and the wishes one after the other.
-use Rattle.std.proofs.Common.{◌≡◌, ◌≢◌, ℕ, ◌+◌, ◌<◌, ◌≤◌, ◌&&◌, Bool, true, false, List, Result, Ok, length, slice_index, arith, ap, ap₂, refl, sym, subst, ◌∙◌, inl, inr}
+use Rattle.std.proofs.Common.{◌≡◌, ◌≢◌, ℕ, ◌+◌, ◌<◌, ◌≤◌, ◌&&◌, Bool, true, false, cond, List, Option, Some, None, Result, Ok, IfOk, length, slice_index, arith, ap, ap₂, refl, sym, subst, ◌∙◌, inl, inr}
 use Rattle.std.specs.Prelude.{◌↔◌}
 use Rattle.std.proofs.lemmas.Bool.{cases_eq, false≢true}
 use Rattle.std.proofs.lemmas.Option.{same_Some}
 use Rattle.node_pool.specs.declared.region.Span.{Span}
 use Rattle.bdd_core.proofs.Frames.{adds_words, filled_added, span_added}
 use Rattle.bdd_core.proofs.Meaning.{meaning_zero}
+use Rattle.bdd_core.proofs.Results.{if_ok_more}
 use Rattle.bdd_core.specs.Diagram.{Function, IsSame, IsWithin, Valuation, choice, meaning}
 use Rattle.bdd_core.specs.Store.{AddsNodes, Diagrams, IsLive, Makes, Means, function_of}
 use Rattle.bdd_core.specs.Words.{IsFilled, shows, word_at}
@@ -15,7 +16,7 @@ use Rattle.bdd_ops.proofs.CountingLaws.{counts_made, counts_then}
 use Rattle.bdd_ops.proofs.WithinLaws.{span_kept, within_and, within_choice, within_not, within_same}
 use Rattle.bdd_ops.specs.Counting.{Counts, IsSpanWithin}
 use Rattle.bdd_ops.specs.Ops.{and_of, not_of}
-use Rattle.phase_wishes.specs.Missed.{AreBits, AreWithin, IsCompared, IsFirstMissed, IsInside, IsMet, IsWithinBits, is_turned, net_at, source_at, turned_of, wanted_at}
+use Rattle.phase_wishes.specs.Missed.{AreBits, AreWithin, IsCompared, IsComparedAt, IsFirstMissed, IsFreeInside, IsInside, IsMet, IsWithinBits, asked_in, is_turned, net_at, source_at, turned_of, wanted_at}
 use Rattle.phase_wishes.specs.declared.missed.Opposites.{Opposites}
 use Rattle.phase_wishes.specs.declared.missed.WishFault.{WishFault}
 use Rattle.phase_wishes.specs.declared.wishes.Wanted.{Wanted}
@@ -57,6 +58,35 @@ source_within u d bits (Constant v) inside within = λ x y same. refl
 
 turned_within : (u : ℕ) (inverted : Bool) (f : Function) → IsWithin u f → IsWithin u (turned_of inverted f)
 turned_within u inverted f reads = λ v w same. ap (λ (b : Bool). differ inverted b) (reads v w same)
+
+pub asked_within : (u : ℕ) (d : Diagrams) (care : H) (bits : WishBits) (free : Option ℕ) → IsFreeInside bits free → IsWithin u (function_of d care) → AreWithin u d bits
+    → IsWithin u (asked_in d care bits free)
+asked_within u d care bits None inside care_in within = care_in
+asked_within u d care bits (Some bit) inside care_in within =
+    within_choice u (shows d bits.values bit) (λ v. false) (function_of d care) (within.1 bit inside) (λ x y same. refl) care_in
+
+-- ---- the valuations at which a wish is asked for
+
+module _ (old new : Diagrams) (care : H) (bits : WishBits) (free : Option ℕ) (bit word : ℕ) (r : Result H Spent) (is : free ≡ Some bit) (read : word ≡ word_at old bits.values bit)
+    (makes : Makes old new (choice (meaning old.nodes word) (meaning old.nodes 0) (function_of old care)) r) where
+  abbrev Masked : Function
+  Masked = choice (meaning old.nodes word) (meaning old.nodes 0) (function_of old care)
+
+  -- the operation gives 1 where there is care and the don't-care bit is 0
+  masked : IsSame Masked (asked_in old care bits free)
+  masked v =
+      ap (λ (b : Bool). cond (meaning old.nodes word v) b (function_of old care v)) (meaning_zero old.nodes v)
+      ∙ ap (λ (k : ℕ). cond (meaning old.nodes k v) false (function_of old care v)) read
+      ∙ sym (ap (λ (o : Option ℕ). asked_in old care bits o v) is)
+
+  pub asked_means : IfOk r (λ h. Means new h (asked_in old care bits free))
+  asked_means =
+      if_ok_more (λ h. Means new h Masked) (λ h. Means new h (asked_in old care bits free)) r (λ h of. record { live = of.live; same = λ v. of.same v ∙ masked v }) makes.ok
+
+  pub asked_counts : (u : ℕ) → 2 ≤ length old.nodes → IsFreeInside bits free → IsWithin u (function_of old care) → AreWithin u old bits → Counts u 1 old new r
+  asked_counts u two inside care_in within =
+      counts_made u old new two Masked r makes
+      (within_same u (asked_in old care bits free) Masked (λ v. masked v) (asked_within u old care bits free inside care_in within))
 
 -- ---- the operations of one wish
 
@@ -119,25 +149,36 @@ module _ (first old : Diagrams) (adds : AddsNodes first old) (bits : WishBits) (
   source_first (Other net inverted) inside v = shows_first bits.gates net.0 v are.gates_live inside
   source_first (Constant b) inside v = refl
 
+  -- there it is asked for at the same valuations
+  asked_first : (care : H) (free : Option ℕ) → IsLive first care → IsFreeInside bits free → IsSame (asked_in old care bits free) (asked_in first care bits free)
+  asked_first care None live inside v = adds.kept care.0 live v
+  asked_first care (Some bit) live inside v =
+      ap₂ (λ (x y : Bool). cond x false y) (shows_first bits.values bit v are.values_live inside) (adds.kept care.0 live v)
+
   -- a wish that was compared in a later store, by what the first store shows
-  pub compared_first : (new : Diagrams) (care : H) (wish : Wish) (fault : WishFault) → IsLive first care → IsWithinBits bits wish → IsCompared old new care bits wish fault → IsCompared first new care bits wish fault
-  compared_first new care wish fault live inside is = record {
+  pub compared_by : (new : Diagrams) (late early : Function) (wish : Wish) (fault : WishFault) → IsSame late early → wish.net.0 < bits.gates.len → IsInside bits wish.wanted
+      → IsComparedAt old new late bits wish fault → IsComparedAt first new early bits wish fault
+  compared_by new late early wish fault asked net inside is = record {
     wish_is = is.wish_is;
     at = record {
       live = is.at.live;
       same = λ v.
-          is.at.same v ∙ ap (λ (x : Bool). x && differ (net_at old bits wish v) (wanted_at old bits wish.wanted v)) (adds.kept care.0 live v)
-          ∙ ap₂ (λ (x y : Bool). function_of first care v && differ x y) (net_first v) (wanted_first v);
+          is.at.same v ∙ ap (λ (x : Bool). x && differ (net_at old bits wish v) (wanted_at old bits wish.wanted v)) (asked v)
+          ∙ ap₂ (λ (x y : Bool). early v && differ x y) (net_first v) (wanted_first v);
     };
     circuit = record { live = is.circuit.live; same = λ v. is.circuit.same v ∙ net_first v };
     wanted = record { live = is.wanted.live; same = λ v. is.wanted.same v ∙ wanted_first v };
   }
     where
       net_first : (v : Valuation) → net_at old bits wish v ≡ net_at first bits wish v
-      net_first v = shows_first bits.gates wish.net.0 v are.gates_live inside.0
+      net_first v = shows_first bits.gates wish.net.0 v are.gates_live net
 
       wanted_first : (v : Valuation) → wanted_at old bits wish.wanted v ≡ wanted_at first bits wish.wanted v
-      wanted_first v = ap (λ (b : Bool). differ (is_turned wish.wanted) b) (source_first wish.wanted inside.1 v)
+      wanted_first v = ap (λ (b : Bool). differ (is_turned wish.wanted) b) (source_first wish.wanted inside v)
+
+  pub compared_first : (new : Diagrams) (care : H) (wish : Wish) (fault : WishFault) → IsLive first care → IsWithinBits bits wish → IsCompared old new care bits wish fault → IsCompared first new care bits wish fault
+  compared_first new care wish fault live inside is =
+      compared_by new (asked_in old care bits wish.free) (asked_in first care bits wish.free) wish fault (asked_first care wish.free live inside.2) inside.0 inside.1 is
 
 -- ---- the wishes so far
 
@@ -145,7 +186,7 @@ module _ (wishes : List Wish) (care : H) (bits : WishBits) (first new : Diagrams
   -- a wish that is missed nowhere
   pub met_here : (wish : Wish) (fault : WishFault) → IsCompared first new care bits wish fault → fault.at.0 ≡ 0 → IsMet care bits first wish
   met_here wish fault is zero v cared =
-      same_at (function_of first care v) (net_at first bits wish v) (wanted_at first bits wish.wanted v)
+      same_at (asked_in first care bits wish.free v) (net_at first bits wish v) (wanted_at first bits wish.wanted v)
       (sym (is.at.same v) ∙ ap (λ (k : ℕ). meaning new.nodes k v) zero ∙ meaning_zero new.nodes v) cared
 
   pub met_more : (i : ℕ) (wish : Wish) → At wishes i wish → IsMet care bits first wish
@@ -170,7 +211,7 @@ module _ (wishes : List Wish) (care : H) (bits : WishBits) (first new : Diagrams
         live = same.at.live;
         some = some;
         exact = λ v.
-            let at = differs_at (function_of first care v) (net_at first bits fault.wish v) (wanted_at first bits fault.wish.wanted v) in
+            let at = differs_at (asked_in first care bits fault.wish.free v) (net_at first bits fault.wish v) (wanted_at first bits fault.wish.wanted v) in
             (λ e. at.0 (sym (same.at.same v) ∙ e), λ h. same.at.same v ∙ at.1 h);
         circuit = same.circuit;
         wanted = same.wanted;

@@ -7,7 +7,7 @@ use Rattle.fault_places.specs.PhaseSpots.{IsSortedBy}
 use Rattle.fault_places.specs.Searches.{Spot}
 use Rattle.phase_wishes.proofs.SpotLaws.{not_both}
 use Rattle.phase_wishes.specs.Held.{held_kinds}
-use Rattle.phase_wishes.specs.Wishes.{AreOnce, AreWishes, AreWishesOf, IsMissed, spot_of, wanted_bit, wished_kinds}
+use Rattle.phase_wishes.specs.Wishes.{AreOnce, AreWishes, AreWishesOf, IsMissed, is_asked, spot_of, wanted_bit, wished_kinds}
 use Rattle.phase_wishes.specs.declared.wishes.Wish.{Wish}
 use Rattle.vrt_model.proofs.Lists.{at_either, at_map}
 use Rattle.vrt_model.proofs.Members.{among_either, among_left, among_right, at_none}
@@ -27,7 +27,7 @@ module _ (kinds : List FaultKind) (k : Comparison) (phase : ℕ) (wishes : List 
   misses : (x : Spot) (a : Partial) (g : Assignment) → IsMissed wishes x a g → Misses k phase a g x.kind x.at
   misses x a g m =
       subst (λ (y : Spot). Misses k phase a g y.kind y.at) m.here
-      (m.wish.net.0, wanted_bit m.wish.wanted a g, are.each m.wish m.among a g, m.missed)
+      (m.wish.net.0, wanted_bit m.wish.wanted a g, are.each m.wish m.among a g m.asked, m.missed)
 
   missed : (x : Spot) (a : Partial) (g : Assignment) → Among kinds x.kind → Misses k phase a g x.kind x.at → IsMissed wishes x a g
   missed x a g among m =
@@ -37,6 +37,7 @@ module _ (kinds : List FaultKind) (k : Comparison) (phase : ℕ) (wishes : List 
         wish = there.0;
         among = there.1;
         here = ap₂ (λ (kind : FaultKind) (at : ℕ). let y : Spot = record { kind = kind; at = at } in y) says.kind_is says.place_is;
+        asked = says.asked_is;
         missed = λ same. m.3 (ap a (sym says.net_is) ∙ same ∙ says.wanted_is);
       }
 
@@ -112,11 +113,11 @@ module _ (k : Comparison) (phase : ℕ) (wishes : List Wish) (are : AreWishes k 
       (λ h. two.0 (one.0 h), λ h. one.1 (two.1 h))
 
   -- the two values that a wish is printed with
-  pub wish_printed : (wish : Wish) (circuit wanted : Option Bool) → Among wishes wish → a wish.net.0 ≡ circuit → wanted_bit wish.wanted a g ≡ wanted
+  pub wish_printed : (wish : Wish) (circuit wanted : Option Bool) → Among wishes wish → is_asked wish g ≡ true → a wish.net.0 ≡ circuit → wanted_bit wish.wanted a g ≡ wanted
       → IsPrintedWith k phase setting a g wish.kind wish.place circuit wanted
-  wish_printed wish circuit wanted m has ought = inl (
+  wish_printed wish circuit wanted m asked has ought = inl (
     wish.net.0,
-    subst (WantsValue k phase a g wish.kind wish.place wish.net.0) ought (are.each wish m a g),
+    subst (WantsValue k phase a g wish.kind wish.place wish.net.0) ought (are.each wish m a g asked),
     value_of k phase setting a wish.kind wish.net.0 circuit (are.only wish m) (sym has),
   )
 

@@ -41,9 +41,9 @@ IsOfHold c groups (Element element inverted) = (group : Group) × Among groups g
 IsOfHold c groups (Other net inverted) = IsHoldNet c net.0
 IsOfHold c groups (Constant v) = Unit {0}
 
--- a wish at a net that has a hold
+-- a wish at a net that has a hold, without a don't-care bit
 abbrev pub IsHoldWish : Circuit → List Group → Wish → Type 0
-IsHoldWish c groups wish = IsHoldNet c wish.net.0 × IsOfHold c groups wish.wanted
+IsHoldWish c groups wish = IsHoldNet c wish.net.0 × IsOfHold c groups wish.wanted × (wish.free ≡ None)
 
 -- a list has more behind what it had: all that holds ought to be given for faults of these kinds
 pub record AddsHeld (c : Circuit) (rules : Rules) (groups : List Group) (phase : ℕ) (kinds : List FaultKind) (old new : List Wish) : Type 0 where
@@ -127,7 +127,7 @@ pub record Puts (Is : ℕ → Wanted → Type 0) (old new : List (Option Wanted)
 -- the wish of an entry at a net
 abbrev pub wish_by : FaultKind → ℕ → Option Wanted → Option Wish
 wish_by kind n found =
-    option_map (λ (w : Wanted). let net : Net = record { 0 = n } in let wish : Wish = record { kind = kind; place = n; net = net; wanted = w } in wish) found
+    option_map (λ (w : Wanted). let net : Net = record { 0 = n } in let wish : Wish = record { kind = kind; place = n; net = net; wanted = w; free = None } in wish) found
 
 -- the wishes of the entries of a table, whose first net has this number
 abbrev pub wishes_from : FaultKind → ℕ → List (Option Wanted) → List Wish

@@ -1,12 +1,12 @@
 -- Wishes against the bits of handles: which are missed, and the first.
-use Rattle.std.specs.Prelude.{◌≡◌, ◌≢◌, ℕ, ◌<◌, ◌↔◌, ◌&&◌, Bool, true, false, List, [], ◌∷◌, Option, Some, None, map}
+use Rattle.std.specs.Prelude.{◌≡◌, ◌≢◌, ℕ, ◌<◌, ◌↔◌, ◌&&◌, Bool, true, false, cond, List, [], ◌∷◌, Option, Some, None, map}
 use Rattle.bdd_core.specs.Diagram.{Function, Valuation}
 use Rattle.bdd_core.specs.Store.{Diagrams, IsLive, IsSpan, Means, function_of}
 use Rattle.bdd_core.specs.Words.{IsFilled, shows}
 use Rattle.bdd_core.specs.declared.handle.H.{H}
 use Rattle.bdd_ops.specs.Counting.{IsSpanWithin}
 use Rattle.fault_places.specs.Searches.{IsClearOf, IsFoundIn, Spot}
-use Rattle.phase_wishes.specs.Wishes.{AreOnce, IsMissed, spot_of, wanted_bit}
+use Rattle.phase_wishes.specs.Wishes.{AreOnce, IsMissed, is_asked, spot_of, wanted_bit}
 use Rattle.phase_wishes.specs.declared.missed.WishFault.{WishFault}
 use Rattle.phase_wishes.specs.declared.wishes.Wanted.{Wanted}
 use Rattle.phase_wishes.specs.declared.wishes.Wanted.TheVariants.{Signal, Element, Other, Constant}
@@ -38,9 +38,14 @@ IsInside bits (Element element inverted) = element < bits.next.len
 IsInside bits (Other net inverted) = net.0 < bits.gates.len
 IsInside bits (Constant v) = Unit {0}
 
--- there are handles for the net of a wish and for what is wanted
+-- there is a handle for a don't-care bit
+abbrev pub IsFreeInside : WishBits → Option ℕ → Type 0
+IsFreeInside bits None = Unit {0}
+IsFreeInside bits (Some bit) = bit < bits.values.len
+
+-- there are handles for the net of a wish, for what is wanted and for its don't-care bit
 abbrev pub IsWithinBits : WishBits → Wish → Type 0
-IsWithinBits bits wish = (wish.net.0 < bits.gates.len) × IsInside bits wish.wanted
+IsWithinBits bits wish = (wish.net.0 < bits.gates.len) × IsInside bits wish.wanted × IsFreeInside bits wish.free
 
 -- whether the inverse of a bit is wanted
 abbrev pub is_turned : Wanted → Bool
@@ -68,25 +73,35 @@ wanted_at d bits wanted = turned_of (is_turned wanted) (source_at d bits wanted)
 abbrev pub net_at : Diagrams → WishBits → Wish → Function
 net_at d bits wish = shows d bits.gates wish.net.0
 
+-- where there is care and a don't-care bit is 0
+abbrev pub asked_in : Diagrams → H → WishBits → Option ℕ → Function
+asked_in d care bits None = function_of d care
+asked_in d care bits (Some bit) = λ v. cond (shows d bits.values bit v) false (function_of d care v)
+
 -- where there is care and two bits differ
 abbrev pub difference_of : Function → Function → Function → Function
 difference_of care net wanted = λ v. care v && differ (net v) (wanted v)
 
 -- ---- by functions
 
--- where a wish is missed in the care set, and the two bits there
-pub record IsCompared (old new : Diagrams) (care : H) (bits : WishBits) (wish : Wish) (fault : WishFault) : Type 0 where
+-- where a wish is missed among these valuations, and the two bits there
+pub record IsComparedAt (old new : Diagrams) (asked : Function) (bits : WishBits) (wish : Wish) (fault : WishFault) : Type 0 where
   pub wish_is : fault.wish ≡ wish
-  pub at : Means new fault.at (difference_of (function_of old care) (net_at old bits wish) (wanted_at old bits wish.wanted))
+  pub at : Means new fault.at (difference_of asked (net_at old bits wish) (wanted_at old bits wish.wanted))
   pub circuit : Means new fault.circuit (net_at old bits wish)
   pub wanted : Means new fault.wanted (wanted_at old bits wish.wanted)
 
--- in the care set the net of a wish has the bit that it ought to
-abbrev pub IsMet : H → WishBits → Diagrams → Wish → Type 0
-IsMet care bits d wish = (v : Valuation) → function_of d care v ≡ true → net_at d bits wish v ≡ wanted_at d bits wish.wanted v
+-- the same in the care set where the wish is asked for
+abbrev pub IsCompared : Diagrams → Diagrams → H → WishBits → Wish → WishFault → Type 0
+IsCompared old new care bits wish fault = IsComparedAt old new (asked_in old care bits wish.free) bits wish fault
 
--- The first wish that is missed. The handle is live, not that of the constant 0, and is 1 exactly where there is care and the
--- bit of the net is not the one that it ought to be; two more handles have these two bits. Each wish before it is met.
+-- in the care set, where a wish is asked for, its net has the bit that it ought to
+abbrev pub IsMet : H → WishBits → Diagrams → Wish → Type 0
+IsMet care bits d wish = (v : Valuation) → asked_in d care bits wish.free v ≡ true → net_at d bits wish v ≡ wanted_at d bits wish.wanted v
+
+-- The first wish that is missed. The handle is live, not that of the constant 0, and is 1 exactly where there is care, the wish is
+-- asked for and the bit of the net is not the one that it ought to be; two more handles have these two bits. Each wish before it is
+-- met.
 pub record IsFirstMissed (wishes : List Wish) (care : H) (bits : WishBits) (fault : WishFault) (old new : Diagrams) : Type 0 where
   pub index : ℕ
   pub stands : At wishes index fault.wish
@@ -94,7 +109,7 @@ pub record IsFirstMissed (wishes : List Wish) (care : H) (bits : WishBits) (faul
   pub some : fault.at.0 ≢ 0
   pub exact :
       (v : Valuation)
-      → (function_of new fault.at v ≡ true) ↔ ((function_of old care v ≡ true) × (net_at old bits fault.wish v ≢ wanted_at old bits fault.wish.wanted v))
+      → (function_of new fault.at v ≡ true) ↔ ((asked_in old care bits fault.wish.free v ≡ true) × (net_at old bits fault.wish v ≢ wanted_at old bits fault.wish.wanted v))
   pub circuit : Means new fault.circuit (net_at old bits fault.wish)
   pub wanted : Means new fault.wanted (wanted_at old bits fault.wish.wanted)
   pub before : (i : ℕ) (wish : Wish) → i < index → At wishes i wish → IsMet care bits old wish
@@ -132,13 +147,14 @@ abbrev pub MissedIn : (wishes : List Wish) (bits : WishBits) (d : Diagrams) → 
 MissedIn wishes bits d x v = IsMissed wishes x v.solution v.assignment
 
 -- The first wish that is missed in the list, where no two wishes have the same place; in each case the two handles have the bit of
--- its net and the bit that is wanted.
+-- its net and the bit that is wanted, and it is asked for where it is missed.
 pub record IsFoundWish (wishes : List Wish) (care : H) (bits : WishBits) (fault : WishFault) (old new : Diagrams) : Type 0 where
   pub among : Among wishes fault.wish
   pub found :
       AreOnce wishes
       → IsFoundIn (MissedIn wishes bits old) (λ (v : WishCase wishes bits old). function_of old care v.valuation)
       (λ (v : WishCase wishes bits old). function_of new fault.at v.valuation) (map spot_of wishes) (spot_of fault.wish)
+  pub asked : (v : WishCase wishes bits old) → function_of new fault.at v.valuation ≡ true → is_asked fault.wish v.assignment ≡ true
   pub has : (v : WishCase wishes bits old) → v.solution fault.wish.net.0 ≡ Some (function_of new fault.circuit v.valuation)
   pub ought : (v : WishCase wishes bits old) → wanted_bit fault.wish.wanted v.solution v.assignment ≡ Some (function_of new fault.wanted v.valuation)
 

@@ -1,5 +1,5 @@
 -- What nets ought to be given in a phase.
-use Rattle.std.specs.Prelude.{◌≡◌, ℕ, ◌<◌, Bool, true, List, [], ◌∷◌, Option, Some, option_map}
+use Rattle.std.specs.Prelude.{◌≡◌, ℕ, ◌<◌, Bool, true, not, List, [], ◌∷◌, Option, Some, option_map, unwrap_or}
 use Rattle.fault_places.specs.Searches.{Spot}
 use Rattle.phase_wishes.specs.declared.wishes.Wanted.{Wanted}
 use Rattle.phase_wishes.specs.declared.wishes.Wanted.TheVariants.{Signal, Element, Other, Constant}
@@ -7,10 +7,12 @@ use Rattle.phase_wishes.specs.declared.wishes.Wish.{Wish}
 use Rattle.vrt_model.specs.Assignment.{Assignment}
 use Rattle.vrt_model.specs.CellRules.{is_observed_port}
 use Rattle.vrt_model.specs.Comparison.{CellPort, Comparison, cell_at, output_signal, ports_of}
-use Rattle.vrt_model.specs.Faults.{WantsValue}
+use Rattle.vrt_model.specs.Faults.{WantsValue, is_free}
 use Rattle.vrt_model.specs.Lists.{Among, At, differ}
 use Rattle.vrt_model.specs.Places.{comes_before, standing}
 use Rattle.vrt_model.specs.Reading.{Partial}
+use Rattle.vrt_model.specs.declared.flat_model.DontCare.{DontCare}
+use Rattle.vrt_model.specs.declared.flat_model.FlatModel.{FlatModel}
 use Rattle.vrt_model.specs.declared.verdict.FaultKind.{FaultKind}
 use Rattle.vrt_model.specs.declared.verdict.FaultKind.TheVariants.{Differs, Next, Apart, Enter}
 
@@ -21,14 +23,18 @@ wanted_bit (Element element inverted) a g = Some (differ inverted (g.next elemen
 wanted_bit (Other net inverted) a g = option_map (λ (v : Bool). differ inverted v) (a net.0)
 wanted_bit (Constant v) a g = Some v
 
+-- the wish is asked for: its don't-care bit, if it has one, is 0
+abbrev pub is_asked : Wish → Assignment → Bool
+is_asked wish g = unwrap_or (option_map (λ (bit : ℕ). not (g.signal bit)) wish.free) true
+
 -- the place of a wish
 abbrev pub spot_of : Wish → Spot
 spot_of wish = record { kind = wish.kind; at = wish.place }
 
--- under each solution and assignment the net ought to have the bit that is wanted
+-- under each solution and assignment for which the wish is asked for the net ought to have the bit that is wanted
 abbrev pub IsWish : Comparison → ℕ → Wish → Type 0
 IsWish k phase wish =
-    (a : Partial) (g : Assignment) → WantsValue k phase a g wish.kind wish.place wish.net.0 (wanted_bit wish.wanted a g)
+    (a : Partial) (g : Assignment) → is_asked wish g ≡ true → WantsValue k phase a g wish.kind wish.place wish.net.0 (wanted_bit wish.wanted a g)
 
 -- an output port with its signal, in a phase in which it is observed
 pub record IsSeenOutput (k : Comparison) (phase at : ℕ) (port : CellPort) (signal : ℕ) : Type 0 where
@@ -36,12 +42,13 @@ pub record IsSeenOutput (k : Comparison) (phase at : ℕ) (port : CellPort) (sig
   pub role : output_signal port.role ≡ Some signal
   pub seen : is_observed_port k.rules (cell_at k.design k.cell).name port.name phase ≡ true
 
--- the wish says that the net of this number ought to have this bit, for a fault of this kind at this place
+-- the wish is asked for and says that the net of this number ought to have this bit, for a fault of this kind at this place
 pub record Says (wish : Wish) (a : Partial) (g : Assignment) (kind : FaultKind) (at n : ℕ) (w : Option Bool) : Type 0 where
   pub kind_is : wish.kind ≡ kind
   pub place_is : wish.place ≡ at
   pub net_is : wish.net.0 ≡ n
   pub wanted_is : wanted_bit wish.wanted a g ≡ w
+  pub asked_is : is_asked wish g ≡ true
 
 -- all that nets ought to be given, for faults of these kinds, in the order of places
 pub record AreWishesOf (kinds : List FaultKind) (k : Comparison) (phase : ℕ) (wishes : List Wish) : Type 0 where
@@ -71,13 +78,23 @@ pub record AreOutputWishes (k : Comparison) (phase : ℕ) (wishes : List Wish) :
   pub all : (at : ℕ) (port : CellPort) (signal : ℕ) → IsSeenOutput k phase at port signal → (wish : Wish) × Among wishes wish × (wish.place ≡ at)
   pub rising : (i j : ℕ) (x y : Wish) → At wishes i x → At wishes j y → i < j → x.place < y.place
 
+-- the don't cares of one output have one bit
+abbrev pub HasOneBitEach : FlatModel → Type 0
+HasOneBitEach flat = (d e : DontCare) → Among flat.dontcares d → Among flat.dontcares e → d.output ≡ e.output → d.bit ≡ e.bit
+
+-- a wish for a signal is asked for where the signal is not free
+abbrev pub AreFreeBits : Comparison → List Wish → Type 0
+AreFreeBits k wishes =
+    (wish : Wish) (signal : ℕ) (g : Assignment) → Among wishes wish → wish.wanted ≡ Signal signal → is_asked wish g ≡ not (is_free k.model g signal)
+
 -- no two wishes have the same place
 abbrev pub AreOnce : List Wish → Type 0
 AreOnce wishes = (i j : ℕ) (x y : Wish) → At wishes i x → At wishes j y → spot_of x ≡ spot_of y → i ≡ j
 
--- a wish of this place is missed
+-- a wish of this place is asked for and missed
 pub record IsMissed (wishes : List Wish) (x : Spot) (a : Partial) (g : Assignment) : Type 0 where
   pub wish : Wish
   pub among : Among wishes wish
   pub here : spot_of wish ≡ x
+  pub asked : is_asked wish g ≡ true
   pub missed : (a wish.net.0 ≡ wanted_bit wish.wanted a g) → ⊥

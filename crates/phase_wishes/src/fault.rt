@@ -40,7 +40,7 @@ fn first_missed(
     ensures adds { AddsNodes store.old store.new }
     ensures gives { IfOk result (WishesGive wishes.now care bits store.old store.new) }
     ensures spent { IfErr result (λ s. (s.nodes ≡ store.new.budget) × (length store.new.nodes ≡ store.new.budget)) }
-    ensures counts { (u : ℕ) → IsWithin u (function_of store.old care) → AreWithin u store.old bits → Counts u (3 * length wishes.now) store.old store.new result }
+    ensures counts { (u : ℕ) → IsWithin u (function_of store.old care) → AreWithin u store.old bits → Counts u (4 * length wishes.now) store.old store.new result }
 {
     store.sound();
     for i in 0..wishes.len() {
@@ -55,11 +55,11 @@ fn first_missed(
     Ok(None)
 }
 
-/// The first of some wishes that is missed somewhere in the care set: the bit of its net, of which `gates` has the handles, is not
-/// the one that it ought to be. Of signals and of the new bits of latch elements `values` and `next` have the handles.
+/// The first of some wishes that is missed somewhere in the care set: its don't-care bit, if it has one, is 0, and the bit of its
+/// net, of which `gates` has the handles, is not the one that it ought to be. Of signals and of the new bits of latch elements `values` and `next` have the handles.
 ///
 /// Nodes alone are added, and no word is written, also where the budget is used up. `Spent` has the budget. For handles
-/// that read only the first `u` variables there are at most three operations of `2 ^ u` nodes for each wish.
+/// that read only the first `u` variables there are at most four operations of `2 ^ u` nodes for each wish.
 pub fn wish_fault(
     store: &mut Store,
     wishes: &[Wish],
@@ -73,7 +73,7 @@ pub fn wish_fault(
     ensures gives { IfOk result (WishesGive wishes.now care bits store.old store.new) }
     ensures found { IfOk result (WishesFind wishes.now care bits store.old store.new) }
     ensures spent { IfErr result (λ s. (s.nodes ≡ store.new.budget) × (length store.new.nodes ≡ store.new.budget)) }
-    ensures counts { (u : ℕ) → IsWithin u (function_of store.old care) → AreWithin u store.old bits → Counts u (3 * length wishes.now) store.old store.new result }
+    ensures counts { (u : ℕ) → IsWithin u (function_of store.old care) → AreWithin u store.old bits → Counts u (4 * length wishes.now) store.old store.new result }
 {
     first_missed(store, wishes, care, bits)
 }

@@ -33,6 +33,7 @@ fn add_wish(
         place: net,
         net: Net(net),
         wanted,
+        free: None,
     };
     match wishes.push(wish) {
         Ok(()) => Ok(()),

@@ -5,14 +5,14 @@ ghost use Rattle.bdd_core.specs.Diagram.{IsSame, IsWithin};
 ghost use Rattle.bdd_core.specs.Store.{AddsNodes, Gives, IsLive, Means, function_of};
 ghost use Rattle.bdd_ops.specs.Counting.{Counts};
 ghost use Rattle.bdd_ops.specs.Ops.{not_of};
-ghost use Rattle.phase_wishes.specs.Missed.{AreBits, AreWithin, IsCompared, IsInside, difference_of, is_turned, source_at, turned_of};
+ghost use Rattle.phase_wishes.specs.Missed.{AreBits, AreWithin, IsCompared, IsComparedAt, IsFreeInside, IsInside, asked_in, difference_of, is_turned, source_at, turned_of};
 
 use crate::wishes::{Wanted, Wish, WishBits};
 use bdd_core::{H, ONE, Spent, Store, ZERO};
 use bdd_ops::{and, not};
 
-/// A wish that is missed. `at` is the function that is 1 at the valuations of the care set at which the net does not have the bit
-/// that it ought to.
+/// A wish that is missed. `at` is the function that is 1 at the valuations of the care set at which the wish is asked for and the
+/// net does not have the bit that it ought to.
 #[derive(Clone, Copy)]
 pub struct WishFault {
     /// The wish that is missed.
@@ -90,6 +90,26 @@ fn turned(store: &mut Store, source: H, inverted: bool) -> Result<Opposites, Spe
     }
 }
 
+/// Where there is care and a wish is asked for: its don't-care bit, if it has one, is 0. A wish that has none needs no operation.
+fn asked_in(store: &mut Store, care: H, bits: WishBits, free: Option<u32>) -> Result<H, Spent>
+    requires care { IsLive store.old care }
+    requires bits { AreBits store.old bits }
+    requires inside { IsFreeInside bits free }
+    ensures adds { AddsNodes store.old store.new }
+    ensures means { IfOk result (λ h. Means store.new h (asked_in store.old care bits free)) }
+    ensures spent { IfErr result (λ s. (s.nodes ≡ store.new.budget) × (length store.new.nodes ≡ store.new.budget)) }
+    ensures counts { (u : ℕ) → IsWithin u (function_of store.old care) → AreWithin u store.old bits → Counts u 1 store.old store.new result }
+{
+    store.sound();
+    match free {
+        Some(bit) => {
+            let free = H(store.read(bits.values, bit));
+            store.ite(free, ZERO, care)
+        }
+        None => Ok(care),
+    }
+}
+
 /// Where there is care and the bit of a net is not the wanted one.
 fn difference(store: &mut Store, care: H, net: H, both: Opposites) -> Result<H, Spent>
     requires live { IsLive store.old care × IsLive store.old net × IsLive store.old both.wanted × IsLive store.old both.other }
@@ -105,7 +125,37 @@ fn difference(store: &mut Store, care: H, net: H, both: Opposites) -> Result<H, 
     and(store, care, apart)
 }
 
-/// Where a wish is missed, with the bit of its net and the bit that this ought to have.
+/// Where a wish is missed among those valuations at which it is asked for.
+fn compare(store: &mut Store, asked: H, bits: WishBits, wish: Wish) -> Result<WishFault, Spent>
+    requires asked { IsLive store.old asked }
+    requires bits { AreBits store.old bits }
+    requires net { wish.net.0 < bits.gates.len }
+    requires inside { IsInside bits wish.wanted }
+    ensures adds { AddsNodes store.old store.new }
+    ensures compared { IfOk result (IsComparedAt store.old store.new (function_of store.old asked) bits wish) }
+    ensures spent { IfErr result (λ s. (s.nodes ≡ store.new.budget) × (length store.new.nodes ≡ store.new.budget)) }
+    ensures counts { (u : ℕ) → IsWithin u (function_of store.old asked) → AreWithin u store.old bits → Counts u 3 store.old store.new result }
+{
+    store.sound();
+    let circuit = H(store.read(bits.gates, wish.net.0));
+    let source = source(store, bits, wish.wanted);
+    let both = match turned(store, source, is_turned(wish.wanted)) {
+        Ok(both) => both,
+        Err(spent) => return Err(spent),
+    };
+    let at = match difference(store, asked, circuit, both) {
+        Ok(at) => at,
+        Err(spent) => return Err(spent),
+    };
+    Ok(WishFault {
+        wish,
+        at,
+        circuit,
+        wanted: both.wanted,
+    })
+}
+
+/// Where a wish is asked for and missed, with the bit of its net and the bit that this ought to have.
 pub(crate) fn check_wish(
     store: &mut Store,
     care: H,
@@ -116,26 +166,15 @@ pub(crate) fn check_wish(
     requires bits { AreBits store.old bits }
     requires net { wish.net.0 < bits.gates.len }
     requires inside { IsInside bits wish.wanted }
+    requires free { IsFreeInside bits wish.free }
     ensures adds { AddsNodes store.old store.new }
     ensures compared { IfOk result (IsCompared store.old store.new care bits wish) }
     ensures spent { IfErr result (λ s. (s.nodes ≡ store.new.budget) × (length store.new.nodes ≡ store.new.budget)) }
-    ensures counts { (u : ℕ) → IsWithin u (function_of store.old care) → AreWithin u store.old bits → Counts u 3 store.old store.new result }
+    ensures counts { (u : ℕ) → IsWithin u (function_of store.old care) → AreWithin u store.old bits → Counts u 4 store.old store.new result }
 {
-    store.sound();
-    let circuit = H(store.read(bits.gates, wish.net.0));
-    let source = source(store, bits, wish.wanted);
-    let both = match turned(store, source, is_turned(wish.wanted)) {
-        Ok(both) => both,
+    let asked = match asked_in(store, care, bits, wish.free) {
+        Ok(asked) => asked,
         Err(spent) => return Err(spent),
     };
-    let at = match difference(store, care, circuit, both) {
-        Ok(at) => at,
-        Err(spent) => return Err(spent),
-    };
-    Ok(WishFault {
-        wish,
-        at,
-        circuit,
-        wanted: both.wanted,
-    })
+    compare(store, asked, bits, wish)
 }

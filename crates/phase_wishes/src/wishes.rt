@@ -27,6 +27,8 @@ pub struct Wish {
     pub net: Net,
     /// Where the bit is that the net ought to have.
     pub wanted: Wanted,
+    /// The signal of the model that is 1 where the net may have either bit, if there is one.
+    pub free: Option<u32>,
 }
 
 /// Where the handles of the bits stand.

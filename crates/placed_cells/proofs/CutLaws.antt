@@ -258,6 +258,7 @@ module _ (cut : Cut) (i : ℕ) (p : Place) (depth : ℕ) (before behind : List P
       devices = λ e m. device_flat e (subst (λ (ds : List Device). Among ds e) circuit.devices m);
       holds = hold_flat;
       pins = pin_before;
+      source = circuit.source;
     }
 
 pub cut_shows_inside : CutShowsInside

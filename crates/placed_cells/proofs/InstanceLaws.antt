@@ -362,6 +362,7 @@ module _ (t : Top) (roles : List PortRole) (number : ℕ) (p : Place) (depth : �
       pub placed : IsPlaced (flat_circuit_of own) c at exposed drive
       unfolding flat_circuit_of
       placed = record {
+        source = ap (λ (x : ℕ). cond (x == 15) 15 8) (sym shows.source);
         no_holds = holds;
         no_wholes = refl;
         channels = λ d n m touch.
@@ -429,4 +430,5 @@ flat_circuit_shows_inside t number p depth before behind split = record {
   devices = λ e m. m;
   holds = λ n held. held;
   pins = λ out m. absurd (none-some out m.1);
+  source = refl;
 }

@@ -10,6 +10,7 @@ use Rattle.vrt_model.specs.FlatCircuit.{flat_circuit, flat_circuit_of, flat_devi
 use Rattle.vrt_model.specs.Hierarchy.{IsOrdered}
 use Rattle.vrt_model.specs.Inputs.{IsDesign}
 use Rattle.vrt_model.specs.Known.{IsHeld, IsPlain}
+use Rattle.vrt_model.specs.Levels.{source_level, source_of}
 use Rattle.vrt_model.specs.Lists.{Among}
 use Rattle.vrt_model.specs.PairedPorts.{HasRoles}
 use Rattle.vrt_model.specs.Path.{level_of_drive}
@@ -22,13 +23,15 @@ use Rattle.vrt_model.specs.declared.design.DeviceCard.{DeviceCard}
 use Rattle.vrt_model.specs.declared.pairing.Pairing.{Pairing}
 
 -- a circuit over the flat nets shows a place, and all places in it: their devices are there. It has none but those of the flat
--- circuit, and no hold at another net; and output pins of whole instances are at ports of other places, which stand before these or behind them.
+-- circuit, and no hold at another net; output pins of whole instances are at ports of other places, which stand before these or behind them;
+-- and its sources have the level of the rules.
 pub record ShowsInside (t : Top) (p : Place) (depth : ℕ) (before behind : List Place) (c : Circuit) : Type 0 where
   pub nets : c.nets ≡ flat_nets t
   pub there : (r : Place) (card : DeviceCard) → Among (places_in t depth p) r → Among (cell_at t.design r.cell).devices card → Among c.devices (flat_device t r card)
   pub devices : (e : Device) → Among c.devices e → Among (flat_devices t) e
   pub holds : (n : ℕ) → IsHeld c n → IsHeld (flat_circuit_of t) n
   pub pins : (out : OutputPin) → Among (output_pins c) out → (r : Place) × Among (before ++ behind) r × Among r.ports out.pin.net.0
+  pub source : c.source ≡ source_of t.rules
 
 -- what is asked of a cell in a circuit, its net n at `at n`, at its supplies and ports, which are its nets below a number
 pub record HasPlacedPorts (cell c : Circuit) (at : ℕ → ℕ) (base : ℕ) (exposed : ℕ → Bool) (drive : ℕ → ℕ) : Type 0 where
@@ -45,7 +48,7 @@ pub record HasPlacedPorts (cell c : Circuit) (at : ℕ → ℕ) (base : ℕ) (ex
   -- so is an output pin of a whole instance, and all of these are at plain nets
   pub pins :
       (out : OutputPin) (n : ℕ) → n < base → Among (output_pins c) out → IsPlain cell n → out.pin.net.0 ≡ at n
-      → (exposed n ≡ true) × (level_of_drive 8 out.pin.drive ≤ drive n)
+      → (exposed n ≡ true) × (level_of_drive (source_level c) out.pin.drive ≤ drive n)
   pub pins_plain : (out : OutputPin) → Among (output_pins c) out → IsPlain c out.pin.net.0
   -- no hold is at one of them
   pub unheld : (n : ℕ) → n < base → IsPlain cell n → ¬ (IsHeld c (at n))

@@ -11,10 +11,11 @@ use Rattle.plain_models.proofs.CardKinds.{Each}
 use Rattle.plain_models.proofs.NamesApart.{apart_from, none_named, one_named, some_named}
 use Rattle.plain_models.specs.Flat.{HasDrivers, driven_names, used_names}
 use Rattle.plain_models.specs.Texts.{PlainCover, PlainModel, alone, covers_from, model_on_lines, outputs_line}
-use Rattle.vrt_model.proofs.Lists.{filter_map_none}
+use Rattle.vrt_model.proofs.Lists.{at_front, filter_map_none}
 use Rattle.vrt_model.proofs.Tests.{bytes_eq-sym}
+use Rattle.vrt_model.specs.Inputs.{AllApart}
 use Rattle.vrt_model.specs.Lists.{has_name}
-use Rattle.vrt_model.specs.Models.{AreModels, DriverFault, Never, OnLine, Twice, count_lines, driver_fault, driver_fault_in, drivers_in, drivers_of_name, fault_on, is_driven_twice_on, is_least_bad, is_undriven_on, line_in, lines_of, models_within, names_on, on_line, on_lines, uses_in, uses_of_name}
+use Rattle.vrt_model.specs.Models.{AreModels, DriverFault, Never, OnLine, Twice, count_lines, driver_fault, drivers_in, drivers_of_name, earlier_fault, fault_on, is_driven_twice_on, is_least_bad, is_undriven_on, line_in, lines_of, models_within, names_on, network_of, on_line, on_lines, own_fault, uses_in, uses_of_name}
 use Rattle.vrt_model.specs.Nesting.{IsWithin, depth_in, directly, further, greatest}
 use Rattle.vrt_model.specs.declared.blif.Blif.{Blif}
 use Rattle.vrt_model.specs.declared.blif.CoverLine.{CoverLine}
@@ -100,8 +101,8 @@ no_length (x ∷ xs) e = absurd (omega (arith, e))
 -- ---- one model
 
 module _ (m : PlainModel) (drivers : HasDrivers m) where
-  abbrev blif : Blif
-  blif = alone m
+  abbrev own : Blif
+  own = alone m
 
   once : NoRepeat (driven_names m)
   once = once_by (driven_names m) drivers.apart
@@ -120,7 +121,7 @@ module _ (m : PlainModel) (drivers : HasDrivers m) where
   unlisted_clocks [] e = tt
   unlisted_clocks (x ∷ xs) e = (unlisted 2 m.inputs x e.0, unlisted_clocks xs e.1)
 
-  drivers_named : map name_of (drivers_in blif (model_on_lines m)) ≡ driven_names m
+  drivers_named : map name_of (drivers_in own (model_on_lines m)) ≡ driven_names m
   drivers_named =
       let inputs = on_lines m.inputs (map (λ x. 2) m.inputs) in
       let clocks = on_lines m.clocks (map (λ x. 3) m.clocks) in
@@ -134,30 +135,30 @@ module _ (m : PlainModel) (drivers : HasDrivers m) where
       (map-append name_of first second ∙ ap₂ (λ (xs ys : List (List ℕ)). xs ++ ys) (renamed 2 (λ (o : OnLine). min o.line (unwrap_or (line_in clocks o.name) o.line)) m.inputs) (kept_clocks inputs 3 m.clocks (unlisted_clocks m.clocks clocks_apart)))
       (covers_named m.covers (outputs_line m + 1))
 
-  uses_named : map name_of (uses_in blif (model_on_lines m)) ≡ used_names m
+  uses_named : map name_of (uses_in own (model_on_lines m)) ≡ used_names m
   uses_named =
       let reads = flat_map (λ (c : CoverLine). map (on_line c.line) c.inputs) (covers_from (outputs_line m + 1) m.covers) in
       let outputs = on_lines m.outputs (map (λ x. outputs_line m) m.outputs) in
       ap (λ (os : List OnLine). map name_of (os ++ outputs)) (append-nil (reads ++ []) ∙ append-nil reads)
       ∙ map-append name_of reads outputs ∙ ap₂ (λ (xs ys : List (List ℕ)). xs ++ ys) (reads_named m.covers (outputs_line m + 1)) (named (outputs_line m) m.outputs)
 
-  driver_count : (name : List ℕ) → length (drivers_of_name blif (model_on_lines m) name) ≡ length (filter (λ x. bytes_eq x name) (driven_names m))
-  driver_count name = named_count (drivers_in blif (model_on_lines m)) name ∙ ap (λ (xs : List (List ℕ)). length (filter (λ x. bytes_eq x name) xs)) drivers_named
+  driver_count : (name : List ℕ) → length (drivers_of_name own (model_on_lines m) name) ≡ length (filter (λ x. bytes_eq x name) (driven_names m))
+  driver_count name = named_count (drivers_in own (model_on_lines m)) name ∙ ap (λ (xs : List (List ℕ)). length (filter (λ x. bytes_eq x name) xs)) drivers_named
 
-  not_twice : (line : ℕ) (name : List ℕ) → is_driven_twice_on blif (model_on_lines m) line name ≡ false
+  not_twice : (line : ℕ) (name : List ℕ) → is_driven_twice_on own (model_on_lines m) line name ≡ false
   not_twice line name =
-      let ds = drivers_of_name blif (model_on_lines m) name in
+      let ds = drivers_of_name own (model_on_lines m) name in
       let few : length ds ≤ 1 = (let e = driver_count name in let l = one_named name (driven_names m) once in omega (arith, e, l)) in
       let fewer : count_lines (λ l. not (nat_lt line l)) ds ≤ 1 = (let s = filter_shorter (λ (o : OnLine). not (nat_lt line o.line)) ds in omega (arith, s, few)) in
       ap (λ (t : Bool). (t && nat_lt (count_lines (λ l. nat_lt l line) ds) 2) && list_any (λ (o : OnLine). o.line == line) ds) (le-ltb 1 (count_lines (λ l. not (nat_lt line l)) ds) fewer)
 
   abbrev ds : List ℕ → List OnLine
-  ds name = drivers_of_name blif (model_on_lines m) name
+  ds name = drivers_of_name own (model_on_lines m) name
 
   abbrev us : List ℕ → List OnLine
-  us name = uses_of_name blif (model_on_lines m) name
+  us name = uses_of_name own (model_on_lines m) name
 
-  driven : (line : ℕ) (name : List ℕ) → has_name (driven_names m) name ≡ true → is_undriven_on blif (model_on_lines m) line name ≡ false
+  driven : (line : ℕ) (name : List ℕ) → has_name (driven_names m) name ≡ true → is_undriven_on own (model_on_lines m) line name ≡ false
   driven line name there =
       let some : 0 < length (ds name) = (let e = driver_count name in let s = some_named name (driven_names m) there in omega (arith, e, s)) in
       ap (λ (t : Bool). (t && list_any (λ (o : OnLine). o.line == line) (us name)) && (count_lines (λ l. nat_lt l line) (us name) == 0)) (some_first (ds name) some)
@@ -166,34 +167,58 @@ module _ (m : PlainModel) (drivers : HasDrivers m) where
   no_second true = refl
   no_second false = refl
 
-  unused : (line : ℕ) (name : List ℕ) → has_name (driven_names m) name ≡ false → is_undriven_on blif (model_on_lines m) line name ≡ false
+  unused : (line : ℕ) (name : List ℕ) → has_name (driven_names m) name ≡ false → is_undriven_on own (model_on_lines m) line name ≡ false
   unused line name none =
       let apart : has_name (used_names m) name ≡ false = false_from_ne_true (has_name (used_names m) name) (λ t. false≢true (sym none ∙ drivers.each name t)) in
-      let empty : us name ≡ [] = no_length (us name) (named_count (uses_in blif (model_on_lines m)) name ∙ ap (λ (xs : List (List ℕ)). length (filter (λ x. bytes_eq x name) xs)) uses_named ∙ ap length (none_named name (used_names m) apart)) in
+      let empty : us name ≡ [] = no_length (us name) (named_count (uses_in own (model_on_lines m)) name ∙ ap (λ (xs : List (List ℕ)). length (filter (λ x. bytes_eq x name) xs)) uses_named ∙ ap length (none_named name (used_names m) apart)) in
       ap (λ (xs : List OnLine). (is_none (slice_get (ds name) 0) && list_any (λ (o : OnLine). o.line == line) xs) && (count_lines (λ l. nat_lt l line) xs == 0)) empty
       ∙ no_second (is_none (slice_get (ds name) 0))
 
-  not_undriven : (line : ℕ) (name : List ℕ) → is_undriven_on blif (model_on_lines m) line name ≡ false
+  not_undriven : (line : ℕ) (name : List ℕ) → is_undriven_on own (model_on_lines m) line name ≡ false
   not_undriven line name = elim (cases_Bool (has_name (driven_names m) name)) [ inl there ↦ driven line name there | inr none ↦ unused line name none ]
 
-  no_fault_on : (line : ℕ) → fault_on blif (model_on_lines m) line ≡ None
+  no_fault_on : (line : ℕ) → fault_on own (model_on_lines m) line ≡ None
   no_fault_on line =
       ap₂ (λ (a b : Option (List ℕ)). option_or (option_map (λ (name : List ℕ). Twice line name) a) (option_map (λ (name : List ℕ). Never line name) b))
-      (not_found (is_driven_twice_on blif (model_on_lines m) line) (names_on (model_on_lines m) line) (not_twice line))
-      (not_found (is_undriven_on blif (model_on_lines m) line) (names_on (model_on_lines m) line) (not_undriven line))
+      (not_found (is_driven_twice_on own (model_on_lines m) line) (names_on (model_on_lines m) line) (not_twice line))
+      (not_found (is_undriven_on own (model_on_lines m) line) (names_on (model_on_lines m) line) (not_undriven line))
 
   same_arms : (b : Bool) → (let none : Option DriverFault = None in cond b none none ≡ none)
   same_arms true = refl
   same_arms false = refl
 
-  none_here : driver_fault_in blif (model_on_lines m) ≡ None
-  none_here =
+  own_none : own_fault own (model_on_lines m) ≡ None
+  own_none =
       ap (λ (xs : List DriverFault). slice_get xs 0)
-      (filter_map_none (λ line. cond (is_least_bad blif (model_on_lines m) line) (fault_on blif (model_on_lines m) line) None) (lines_of (model_on_lines m) blif)
-      (λ line. ap (λ (o : Option DriverFault). cond (is_least_bad blif (model_on_lines m) line) o None) (no_fault_on line) ∙ same_arms (is_least_bad blif (model_on_lines m) line)))
+      (filter_map_none (λ line. cond (is_least_bad own (model_on_lines m) line) (fault_on own (model_on_lines m) line) None) (lines_of (model_on_lines m) own)
+      (λ line. ap (λ (o : Option DriverFault). cond (is_least_bad own (model_on_lines m) line) o None) (no_fault_on line) ∙ same_arms (is_least_bad own (model_on_lines m) line)))
+
+-- ---- its network, in which nothing is driven but the inputs and clocks
+
+abbrev bare : PlainModel → PlainModel
+bare m = record m { outputs = []; covers = [] }
+
+bare_drivers : (m : PlainModel) → HasDrivers m → HasDrivers (bare m)
+bare_drivers m drivers = record {
+  apart =
+      subst (AllApart bytes_eq) (sym (append-nil (m.inputs ++ m.clocks)))
+      (λ i j x y a b e. drivers.apart i j x y (at_front (m.inputs ++ m.clocks) outs i x a) (at_front (m.inputs ++ m.clocks) outs j y b) e);
+  each = λ name t. cc;
+} where
+  outs : List (List ℕ)
+  outs = map (λ (c : PlainCover). c.output) m.covers
+
+network_none : (m : PlainModel) → HasDrivers m → own_fault (alone m) (network_of (model_on_lines m)) ≡ None
+network_none m drivers = own_none (bare m) (bare_drivers m drivers)
+
+-- ---- the model with it
+
+module _ (m : PlainModel) (drivers : HasDrivers m) where
+  abbrev blif : Blif
+  blif = alone m
 
   no_driver_fault : driver_fault blif ≡ None
-  no_driver_fault = ap (λ (o : Option DriverFault). slice_get (cons_option o []) 0) none_here
+  no_driver_fault = ap₂ (λ (a b : Option DriverFault). slice_get (cons_option (earlier_fault a b) []) 0) (own_none m drivers) (network_none m drivers)
 
   -- ---- nothing stands in it
 

@@ -7,7 +7,8 @@ use Rattle.plain_models.proofs.CardKinds.{Each}
 use Rattle.plain_models.proofs.DriverLaws.{clocks_apart}
 use Rattle.plain_models.specs.Flat.{HasDrivers, flat_form, number_in, numbered_cover, signal_names}
 use Rattle.plain_models.specs.Texts.{PlainCover, PlainModel, alone, covers_from, model_on_lines, outputs_line}
-use Rattle.vrt_model.specs.FlatBlif.{all_models, cover_signals, flat_cover, flat_model_of, inner_signals, signal_at, signals_of, top_model}
+use Rattle.vrt_model.proofs.Networkless.{no_network}
+use Rattle.vrt_model.specs.FlatBlif.{all_models, cover_signals, flat_cover, flat_model_of, inner_signals, network_names, signal_at, signals_of, top_model, unrolled_of}
 use Rattle.vrt_model.specs.Lists.{distinct, has_name, path_name, place_of}
 use Rattle.vrt_model.specs.declared.blif.CoverLine.{CoverLine}
 use Rattle.vrt_model.specs.declared.flat_model.Cover.{Cover}
@@ -50,16 +51,18 @@ module _ (m : PlainModel) (drivers : HasDrivers m) where
       plus_none n = omega arith
 
   flat_is : flat_model_of (alone m) 0 ≡ flat_form m
-  unfolding flat_model_of all_models
+  unfolding flat_model_of unrolled_of network_names all_models
   flat_is =
-      let signals = append-nil (map (path_name []) (inner_signals (model_on_lines m) [])) ∙ map_same_names (inner_signals (model_on_lines m) []) ∙ inner_are in
+      let signals = append-nil (map (path_name []) (inner_signals (model_on_lines m) []) ++ []) ∙ append-nil (map (path_name []) (inner_signals (model_on_lines m) [])) ∙ map_same_names (inner_signals (model_on_lines m) []) ∙ inner_are in
       let inputs = ap (λ (f : List ℕ → ℕ). map f m.inputs) number_is in
       let clocks = ap₂ (λ (f : List ℕ → ℕ) (xs : List (List ℕ)). map f xs) number_is (kept_all m.inputs m.clocks (clocks_apart m drivers)) in
       let outputs = ap (λ (f : List ℕ → ℕ). map f m.outputs) number_is in
-      let covers = append-nil (map (flat_cover (alone m) (top_model 0)) (covers_from (outputs_line m + 1) m.covers))
+      let covers = append-nil (map (flat_cover (alone m) (top_model 0)) (covers_from (outputs_line m + 1) m.covers) ++ [])
+      ∙ append-nil (map (flat_cover (alone m) (top_model 0)) (covers_from (outputs_line m + 1) m.covers))
       ∙ covers_numbered (signal_at (alone m) (top_model 0)) m.covers (outputs_line m + 1)
       ∙ ap (λ (f : List ℕ → ℕ). map (numbered_cover f) m.covers) number_is in
-      λ i. record { signals = signals i; inputs = inputs i; clocks = clocks i; outputs = outputs i; covers = covers i; latches = [] }
+      let dontcares = no_network (alone m) 0 refl in
+      λ i. record { signals = signals i; inputs = inputs i; clocks = clocks i; outputs = outputs i; covers = covers i; latches = []; dontcares = dontcares i }
 
 pub driven_models_are_flat : (m : PlainModel) → HasDrivers m → flat_model_of (alone m) 0 ≡ flat_form m
 driven_models_are_flat m drivers = flat_is m drivers

@@ -1,6 +1,6 @@
 -- The signals of an interface stand first, each once, so their numbers do not depend on what else a model has.
 use Rattle.std.proofs.Common.{◌≡◌, ℕ, zero, suc, ◌+◌, ◌<◌, ◌&&◌, ◌||◌, Bool, true, false, not, cond, List, [], ◌∷◌, ◌++◌, Option, Some, length, map, append_assoc, arith, ap, ap₂, refl, sym, subst, ◌∙◌, inl, inr}
-use Rattle.std.specs.Prelude.{bytes_eq, filter, flat_map, option_map, slice_get, unwrap_or}
+use Rattle.std.specs.Prelude.{bytes_eq, codes, filter, flat_map, option_map, slice_get, unwrap_or}
 use Rattle.std.proofs.lemmas.Bool.{false≢true, or_left, or_right}
 use Rattle.std.proofs.lemmas.List.Folds.{list_any-append}
 use Rattle.names.proofs.FilterLaws.{filter_new}
@@ -15,7 +15,7 @@ use Rattle.vrt_model.proofs.Lists.{at_map, filter_among_same, filter_twice, map_
 use Rattle.vrt_model.proofs.Members.{among_either, among_filter}
 use Rattle.vrt_model.proofs.Tests.{some_of}
 use Rattle.vrt_model.specs.Elements.{signal_name}
-use Rattle.vrt_model.specs.FlatBlif.{ModelPlace, all_models, cover_signals, flat_model_of, flat_signals_at, inner_signals, latch_signals, model_at, models_in, signal_at, signals_of, sub_signals, subs_at, top_model}
+use Rattle.vrt_model.specs.FlatBlif.{ModelPlace, all_models, cover_signals, flat_model_of, flat_signals_at, inner_signals, latch_signals, model_at, models_in, network_names, signal_at, signals_of, sub_signals, subs_at, top_model, unrolled_of}
 use Rattle.vrt_model.specs.Lists.{Among, distinct, has_name, has_number, path_name, place_of}
 use Rattle.vrt_model.specs.PairedPorts.{interface}
 use Rattle.vrt_model.specs.Unrolled.{deepest}
@@ -109,14 +109,17 @@ module _ (blif : Blif) (n : ℕ) (m : PlainModel) (drivers : HasDrivers m) (is :
       )
 
   flat_first : (more : List (List ℕ)) × ((flat_model_of blif n).signals ≡ first ++ more)
-  unfolding flat_model_of
+  unfolding flat_model_of unrolled_of
   flat_first =
       let all = all_first blif n in
-      let rest = flat_map (flat_signals_at blif) all.0 in (
-        own_first.0 ++ rest,
-        ap (flat_map (flat_signals_at blif)) all.1
+      let rest = flat_map (flat_signals_at blif) all.0 in
+      let network = map (λ (name : List ℕ). name ++ codes "#dc") (network_names (model_at blif n)) in (
+        (own_first.0 ++ rest) ++ network,
+        ap (λ (xs : List (List ℕ)). xs ++ network)
+            (ap (flat_map (flat_signals_at blif)) all.1
             ∙ ap (λ (xs : List (List ℕ)). xs ++ rest) (paths_same (inner_signals b []) ∙ filter_new (signals_of b) ∙ own_first.1)
-            ∙ append_assoc first own_first.0 rest,
+            ∙ append_assoc first own_first.0 rest)
+            ∙ append_assoc first (own_first.0 ++ rest) network,
       )
 
   number_first : (name : List ℕ) → has_name first name ≡ true → signal_at blif (top_model n) name ≡ unwrap_or (place_of first name) 0
@@ -160,15 +163,15 @@ module _ (blif : Blif) (n : ℕ) (m : PlainModel) (drivers : HasDrivers m) (is :
   numbers_same xs there = map_same (signal_at blif (top_model n)) (number_in m) xs (λ i name e. same_number name (there name (at_among xs i name e)))
 
   inputs_kept : (flat_model_of blif n).inputs ≡ (flat_form m).inputs
-  unfolding flat_model_of
+  unfolding flat_model_of unrolled_of
   inputs_kept = ap (map (signal_at blif (top_model n))) is.inputs ∙ numbers_same m.inputs input_there
 
   clocks_kept : (flat_model_of blif n).clocks ≡ (flat_form m).clocks
-  unfolding flat_model_of
+  unfolding flat_model_of unrolled_of
   clocks_kept = ap (map (signal_at blif (top_model n))) is.clocks ∙ numbers_same m.clocks clock_there
 
   outputs_kept : (flat_model_of blif n).outputs ≡ (flat_form m).outputs
-  unfolding flat_model_of
+  unfolding flat_model_of unrolled_of
   outputs_kept = ap (map (signal_at blif (top_model n))) is.outputs ∙ numbers_same m.outputs output_there
 
   -- each signal of the interface has its number among the first

@@ -7,7 +7,7 @@ use Rattle.names.specs.Names.{with_name}
 use Rattle.blif_reader.proofs.KnownLaws.{known_more}
 use Rattle.blif_reader.specs.Cards.{cards_of, first_word, has_first}
 use Rattle.blif_reader.specs.Learned.{learned, with_row}
-use Rattle.blif_reader.specs.Models.{begins_model, cover_inputs, end_of, is_cover, is_dotted, is_latch, is_on, is_sub, model_name}
+use Rattle.blif_reader.specs.Models.{begins_model, cover_inputs, end_of, is_cover, is_dotted, is_exdc, is_latch, is_on, is_sub, model_name}
 use Rattle.blif_reader.specs.Refused.{differs_from, differs_in, fault_by, fault_of, fits, is_bad_tie, is_known, known_by}
 use Rattle.blif_reader.specs.declared.cards.Card.{Card}
 use Rattle.blif_reader.specs.declared.faults.BlifFault.{BlifFault}
@@ -44,7 +44,7 @@ clean_by before (card ∷ cards) known e c =
 module _ (name : List ℕ) where
   -- inside the model
   abbrev inside : Option OpenCover → Known
-  inside cover = record { models = name ∷ []; is_inside = true; cover = cover }
+  inside cover = record { models = name ∷ []; is_inside = true; in_network = false; cover = cover }
 
   -- ---- rows
 
@@ -90,10 +90,11 @@ module _ (name : List ℕ) where
       ∙ ap (λ (t : Bool). first_of (by_kind card false false false false false true t)) (unmixed cover.first (is_on card) on (row_is_on row line))
 
   -- what is known behind a card, by what kind of card it is
-  abbrev known_kind : Card → Option OpenCover → (model end covers dotted : Bool) → Known
-  known_kind card cover model end covers dotted = record {
+  abbrev known_kind : Card → Option OpenCover → (model end exdc covers dotted : Bool) → Known
+  known_kind card cover model end exdc covers dotted = record {
     models = cond model (with_name (name ∷ []) (model_name card)) (name ∷ []);
     is_inside = cond model true (cond (model || end) false true);
+    in_network = cond exdc true (cond (exdc || (model || end)) false false);
     cover = cond covers (Some (record { width = length (cover_inputs card); first = None })) (cond dotted None (option_map (with_row card) cover));
   }
 
@@ -102,10 +103,11 @@ module _ (name : List ℕ) where
   row_learned cover row line fit =
       let card = card_on line (row_words row) in
       let no : (word : List ℕ) → has_first (46 ∷ word) card ≡ false = λ word. row_is_no word cover.width row line fit in
-      ap (λ (t : Bool). known_kind card (Some cover) t (has_first (codes ".end") card) (is_cover card) (is_dotted card)) (no (codes "model"))
-      ∙ ap (λ (t : Bool). known_kind card (Some cover) false t (is_cover card) (is_dotted card)) (no (codes "end"))
-      ∙ ap (λ (t : Bool). known_kind card (Some cover) false false t (is_dotted card)) (no (codes "names"))
-      ∙ ap (λ (t : Bool). known_kind card (Some cover) false false false t) (row_undotted cover.width row line fit)
+      ap (λ (t : Bool). known_kind card (Some cover) t (has_first (codes ".end") card) (is_exdc card) (is_cover card) (is_dotted card)) (no (codes "model"))
+      ∙ ap (λ (t : Bool). known_kind card (Some cover) false t (is_exdc card) (is_cover card) (is_dotted card)) (no (codes "end"))
+      ∙ ap (λ (t : Bool). known_kind card (Some cover) false false t (is_cover card) (is_dotted card)) (no (codes "exdc"))
+      ∙ ap (λ (t : Bool). known_kind card (Some cover) false false false t (is_dotted card)) (no (codes "names"))
+      ∙ ap (λ (t : Bool). known_kind card (Some cover) false false false false t) (row_undotted cover.width row line fit)
 
   -- rows, and what is clean behind them
   rows_clean : (cover : OpenCover) (rows : List (List ℕ)) (line : ℕ) (rest : List (List (List ℕ))) → IsOnCover cover → Each (Fits cover.width) rows
@@ -156,11 +158,11 @@ module _ (name : List ℕ) where
 
 -- ---- the text
 
-first_clean : (name : List ℕ) → fault_by (record { models = []; is_inside = false; cover = None }) (card_on 1 (codes ".model" ∷ name ∷ [])) ≡ None
+first_clean : (name : List ℕ) → fault_by (record { models = []; is_inside = false; in_network = false; cover = None }) (card_on 1 (codes ".model" ∷ name ∷ [])) ≡ None
 unfolding fault_by
 first_clean name = refl
 
-nothing_known : known_by [] ≡ record { models = []; is_inside = false; cover = None }
+nothing_known : known_by [] ≡ record { models = []; is_inside = false; in_network = false; cover = None }
 unfolding known_by
 nothing_known = refl
 
@@ -170,7 +172,7 @@ covers_each m good = each_of IsPlainCover m.covers good.covers
 cards_clean : (m : PlainModel) → IsPlainModel m → IsClean fault_of (cards_from 1 (model_lines m))
 cards_clean m good =
     clean fault_of (cards_from 1 (model_lines m))
-    (clean_by [] (cards_from 1 (model_lines m)) (record { models = []; is_inside = false; cover = None }) nothing_known
+    (clean_by [] (cards_from 1 (model_lines m)) (record { models = []; is_inside = false; in_network = false; cover = None }) nothing_known
     (first_clean m.name, interface_clean m.name m.inputs m.clocks m.outputs m.covers (covers_each m good)))
 
 good_clocks : (clocks : List (List ℕ)) → list_all is_good_word clocks ≡ true → list_all is_good_line (clock_lines clocks) ≡ true

@@ -7,7 +7,7 @@ use Rattle.std.proofs.lemmas.List.Folds.{list_any-append}
 use Rattle.names.proofs.ApartLaws.{NoRepeat, once_by}
 use Rattle.names.specs.Names.{distinct_by, distinct_from}
 use Rattle.blif_reader.specs.Cards.{cards_of, has_first}
-use Rattle.blif_reader.specs.Models.{begins_model, blif_of, cover_of, end_of, ends_model, first_output, is_cover, is_dotted, is_latch, is_sub, latch_of, latches_in, lines, listed, listed_on, model_of, names, row_inputs, signals_on, sub_of}
+use Rattle.blif_reader.specs.Models.{begins_model, blif_of, cover_of, end_of, ends_model, first_output, covers_in, is_cover, is_dotted, is_exdc, is_latch, is_sub, latch_of, latches_in, lines, listed, listed_on, model_of, names, network_cards, own_cards, row_inputs, signals_on, sub_of}
 use Rattle.blif_reader.specs.declared.cards.Card.{Card}
 use Rattle.blif_reader.specs.declared.signals.Listed.{Listed}
 use Rattle.plain_models.proofs.CardKinds.{Each, Fits, IsNo, covers_are_no, each_joined, each_mapped, good_rows, row_is_no, row_is_on, row_undotted}
@@ -68,6 +68,11 @@ module _ (test : Card → Bool) where
 
   no_groups : (ends : Card → Bool) (line : ℕ) (xs : List (List (List ℕ))) → Each (Misses test) xs → groups test ends (cards_from line xs) ≡ []
   no_groups ends line xs miss = ap (λ (ys : List (List (List ℕ))). groups test ends (cards_from line ys)) (sym (append-nil xs)) ∙ groups_later ends line xs [] miss
+
+-- no network is behind cards of which none begins one
+no_network : (line : ℕ) (xs : List (List (List ℕ))) → Each (Misses is_exdc) xs → network_cards (cards_from line xs) ≡ []
+no_network line [] miss = refl
+no_network line (x ∷ xs) miss = ap (λ (t : Bool). cond t (cards_from (line + 1) xs) (network_cards (cards_from (line + 1) xs))) (miss.0 line) ∙ no_network (line + 1) xs miss.1
 
 -- ---- lists of signals
 
@@ -227,8 +232,34 @@ module _ (m : PlainModel) (good : IsPlainModel m) where
   subs_are : map sub_of (filter is_sub (cards_from 2 body)) ≡ []
   subs_are = ap (map sub_of) (none_picked is_sub 2 body (body_is_no (codes "subckt") refl refl refl refl))
 
-  model_is : model_of (card_on 1 (codes ".model" ∷ m.name ∷ []), cards_from 2 body) ≡ model_on_lines m
-  model_is =
+  -- no line begins a don't-care network
+  own_is : own_cards (cards_from 2 body) ≡ cards_from 2 body
+  own_is =
+      ap (λ (xs : List (List (List ℕ))). own_cards (cards_from 2 xs)) (sym (append-nil body))
+      ∙ up_to_more is_exdc 2 body [] (body_is_no (codes "exdc") refl refl refl refl) (λ n. refl)
+
+  network_is : network_cards (cards_from 2 body) ≡ []
+  network_is = no_network 2 body (body_is_no (codes "exdc") refl refl refl refl)
+
+  -- the model of these cards of its own and of its network
+  abbrev model_by : List Card → List Card → BlifModel
+  model_by own network = record {
+    line = 1;
+    name = m.name;
+    inputs = names (listed (codes ".inputs") own);
+    input_lines = lines (listed (codes ".inputs") own);
+    clocks = names (listed (codes ".clock") own);
+    clock_lines = lines (listed (codes ".clock") own);
+    outputs = names (listed (codes ".outputs") own);
+    output_lines = lines (listed (codes ".outputs") own);
+    covers = covers_in own;
+    latches = flat_map latches_in own;
+    subs = map sub_of (filter is_sub own);
+    exdc = covers_in network;
+  }
+
+  own_model_is : model_by (cards_from 2 body) [] ≡ model_on_lines m
+  own_model_is =
       let input_names = ap names inputs_are ∙ names_listed 2 m.inputs in
       let input_numbers = ap lines inputs_are ∙ lines_listed 2 m.inputs in
       let clock_names = ap names clocks_are ∙ names_listed 3 m.clocks in
@@ -247,7 +278,11 @@ module _ (m : PlainModel) (good : IsPlainModel m) where
         covers = covers_are i;
         latches = latches_are i;
         subs = subs_are i;
+        exdc = [];
       }
+
+  model_is : model_of (card_on 1 (codes ".model" ∷ m.name ∷ []), cards_from 2 body) ≡ model_on_lines m
+  model_is = ap₂ model_by own_is network_is ∙ own_model_is
 
   cards_read : blif_of (cards_from 1 (model_lines m)) ≡ alone m
   unfolding blif_of

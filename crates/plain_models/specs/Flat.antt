@@ -46,6 +46,7 @@ flat_form m = record {
   outputs = map (number_in m) m.outputs;
   covers = map (numbered_cover (number_in m)) m.covers;
   latches = [];
+  dontcares = [];
 }
 
 -- ---- the laws

@@ -98,6 +98,7 @@ model_on_lines m = record {
   covers = covers_from (outputs_line m + 1) m.covers;
   latches = [];
   subs = [];
+  exdc = [];
 }
 
 -- this model alone

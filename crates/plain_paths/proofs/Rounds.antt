@@ -8,6 +8,7 @@ use Rattle.vrt_model.proofs.Members.{at_none}
 use Rattle.vrt_model.proofs.PathKinds.{arrives_root}
 use Rattle.vrt_model.proofs.ShortPaths.{path_short}
 use Rattle.vrt_model.proofs.Strength.{AtLeast, HopHas, RootHas, at_least_on, level_le, strength_of}
+use Rattle.vrt_model.specs.Levels.{source_level}
 use Rattle.vrt_model.specs.Lists.{At, Among}
 use Rattle.vrt_model.specs.Path.{IsOn, Joins, Network, Root, end_of}
 use Rattle.vrt_model.specs.Reading.{is_given}
@@ -50,34 +51,34 @@ raise_attained w k hold t u e h a n =
           inr (subst (λ (x : ℕ). AtLeast w x n) (sym q.1) (subst (λ (x : ℕ). AtLeast w hold.size x) (sym q.0) r))
     ]
 
-pub at_given : (nets : List FlatNet) (n : ℕ) (net : FlatNet) → At nets n net → slice_index (map level_of_net nets) n ≡ level_of_net net
-at_given nets n net e =
-    get_or_from_slice_get (map level_of_net nets) n (level_of_net net) 0 (slice_get-map level_of_net nets n ∙ ap (option_map level_of_net) e)
+pub at_given : (source : ℕ) (nets : List FlatNet) (n : ℕ) (net : FlatNet) → At nets n net → slice_index (map (level_of_net source) nets) n ≡ level_of_net source net
+at_given source nets n net e =
+    get_or_from_slice_get (map (level_of_net source) nets) n (level_of_net source net) 0 (slice_get-map (level_of_net source) nets n ∙ ap (option_map (level_of_net source)) e)
 
 -- the levels by the nets' kinds are attained
-pub given_attained : (w : Network) → w.source ≡ 8 → IsAttained w (map level_of_net w.nets)
-given_attained w source n =
+pub given_attained : (w : Network) → IsAttained w (map (level_of_net w.source) w.nets)
+given_attained w n =
     elim (slice_get_cases w.nets n).1 [
       | inl h ↦
           let net : FlatNet = h.0 in
-          let at : slice_index (map level_of_net w.nets) n ≡ level_of_net net = at_given w.nets n net h.2 in
+          let at : slice_index (map (level_of_net w.source) w.nets) n ≡ level_of_net w.source net = at_given w.source w.nets n net h.2 in
           elim (cases_Bool (is_given net.kind)) [
             | inl t ↦
-                let root : Root = record { net = n; level = 8; value = w.given n } in
-                let r : AtLeast w 8 n = arrives_root w (RootHas 8) (HopHas 8) root (inl (net, h.2, t, sym source, refl)) (omega arith) in
-                inr (subst (λ (x : ℕ). AtLeast w x n) (sym (at ∙ ap (λ (b : Bool). cond b 8 0) t)) r)
-            | inr f ↦ inl (at ∙ ap (λ (b : Bool). cond b 8 0) f)
+                let root : Root = record { net = n; level = w.source; value = w.given n } in
+                let r : AtLeast w w.source n = arrives_root w (RootHas w.source) (HopHas w.source) root (inl (net, h.2, t, refl, refl)) (omega arith) in
+                inr (subst (λ (x : ℕ). AtLeast w x n) (sym (at ∙ ap (λ (b : Bool). cond b w.source 0) t)) r)
+            | inr f ↦ inl (at ∙ ap (λ (b : Bool). cond b w.source 0) f)
           ]
-      | inr h ↦ inl (get_or_past (map level_of_net w.nets) n 0 (omega (arith, h.0, length-map w.nets level_of_net)))
+      | inr h ↦ inl (get_or_past (map (level_of_net w.source) w.nets) n 0 (omega (arith, h.0, length-map w.nets (level_of_net w.source))))
     ]
 
 -- a table that has the nets' own levels and the holds' sizes has all roots
-pub roots_from : (c : Circuit) (w : Network) (u : List ℕ) → IsOver c w → HasGrown (map level_of_net c.nets) u → HasHolds c.holds u → HasRoots w u
+pub roots_from : (c : Circuit) (w : Network) (u : List ℕ) → IsOver c w → HasGrown (map (level_of_net (source_level c)) c.nets) u → HasHolds c.holds u → HasRoots w u
 roots_from c w u over g h root r =
     elim r [
       | inl q ↦
           let there : At c.nets root.net q.0 = subst (λ (ns : List FlatNet). At ns root.net q.0) over.nets q.1 in
-          omega (arith, g root.net, at_given c.nets root.net q.0 there, ap {B = ℕ} (λ (b : Bool). cond b 8 0) q.2, q.3, over.source)
+          omega (arith, g root.net, at_given (source_level c) c.nets root.net q.0 there, ap {B = ℕ} (λ (b : Bool). cond b (source_level c) 0) q.2, q.3, over.source)
       | inr other ↦ elim other [
         | inl q ↦
             let there : At c.holds q.0 q.1 = subst (λ (hs : List Hold). At hs q.0 q.1) over.holds q.2 in

@@ -8,6 +8,7 @@ use Rattle.vrt_model.proofs.Marks.{HasMarksWithin, HasRootMarks, HasSpread, mark
 use Rattle.vrt_model.proofs.Members.{at_none}
 use Rattle.vrt_model.proofs.PathKinds.{Arrives, arrives_on, arrives_root}
 use Rattle.vrt_model.proofs.ShortPaths.{path_short}
+use Rattle.vrt_model.specs.Levels.{source_level}
 use Rattle.vrt_model.specs.Lists.{At, Among, mark_at}
 use Rattle.vrt_model.specs.Path.{Hop, IsOn, IsPath, Joins, Network, Root}
 use Rattle.vrt_model.specs.Reading.{is_given}
@@ -38,7 +39,7 @@ spread_marked w s v d from to level t u on j same fits f only m n e =
 
 -- a mark at a root by the kind of its net
 pub given_marked : (c : Circuit) (w : Network) (s : List ℕ) (v : Bool) (at : ℕ) (net : FlatNet) (t u : List Bool) → IsOver c w → At c.nets at net
-    → (fits : Bool) → (fits ≡ true → (is_given net.kind ≡ true) × (8 ≡ slice_index s at) × (w.given at ≡ v))
+    → (fits : Bool) → (fits ≡ true → (is_given net.kind ≡ true) × (source_level c ≡ slice_index s at) × (w.given at ≡ v))
     → ((n : ℕ) → mark_at u n ≡ true → (mark_at t n ≡ true) ⊎ ((n ≡ at) × (fits ≡ true)))
     → Marked w s v t → Marked w s v u
 given_marked c w s v at net t u over e fits f only m n h =
@@ -46,7 +47,7 @@ given_marked c w s v at net t u over e fits f only m n h =
       | inl o ↦ m n o
       | inr q ↦
           let g = f q.1 in
-          let root : Root = record { net = at; level = 8; value = w.given at } in
+          let root : Root = record { net = at; level = source_level c; value = w.given at } in
           let there : At w.nets at net = subst (λ (ns : List FlatNet). At ns at net) (sym over.nets) e in
           subst (Arrives w (RootFits (slice_index s) v) (HopFits (slice_index s))) (sym q.0)
           (arrives_root w (RootFits (slice_index s) v) (HopFits (slice_index s)) root (inl (net, there, g.0, sym over.source, refl)) (g.1, g.2))
@@ -78,7 +79,7 @@ none_marked w s v count n e =
 
 -- the marks at the nets' own roots and at the holds are those of all roots
 pub roots_marked : (c : Circuit) (w : Network) (s : List ℕ) (v : Bool) (u : List Bool) → IsOver c w
-    → ((at : ℕ) (net : FlatNet) → At c.nets at net → is_given net.kind ≡ true → slice_index s at ≡ 8 → w.given at ≡ v → mark_at u at ≡ true)
+    → ((at : ℕ) (net : FlatNet) → At c.nets at net → is_given net.kind ≡ true → slice_index s at ≡ source_level c → w.given at ≡ v → mark_at u at ≡ true)
     → ((at : ℕ) (hold : Hold) → At c.holds at hold → hold.size ≡ slice_index s hold.net.0 → w.held at ≡ v → mark_at u hold.net.0 ≡ true)
     → HasRootMarks w (RootFits (slice_index s) v) (HopFits (slice_index s)) (mark_at u)
 roots_marked c w s v u over given holds root r k =

@@ -1,5 +1,6 @@
 -- The channels of the devices that conduct, as the rounds go over them.
 use Rattle.std.specs.Prelude.{◌≡◌, ℕ, ◌<◌, ◌⊎◌, ◌&&◌, Bool, List, [], filter, map}
+use Rattle.vrt_model.specs.Levels.{source_level}
 use Rattle.vrt_model.specs.Lists.{Among}
 use Rattle.vrt_model.specs.Path.{IsOn, Network}
 use Rattle.vrt_model.specs.Reading.{conducts, is_in}
@@ -39,4 +40,4 @@ pub record IsOver (c : Circuit) (w : Network) : Type 0 where
   pub nets : w.nets ≡ c.nets
   pub holds : w.holds ≡ c.holds
   pub outputs : w.outputs ≡ []
-  pub source : w.source ≡ 8
+  pub source : w.source ≡ source_level c

@@ -25,9 +25,9 @@ HasGrown t u = (n : ℕ) → slice_index t n ≤ slice_index u n
 abbrev pub HasPassed : Channel → List ℕ → List ℕ → Type 0
 HasPassed ch t u = (m n : ℕ) → Connects ch m n → min (slice_index t m) ch.level ≤ slice_index u n
 
--- the level that a net has as a root by its kind, and 0 where it is none
-abbrev pub level_of_net : FlatNet → ℕ
-level_of_net net = cond (is_given net.kind) 8 0
+-- the level that a net has as a root by its kind, where sources have the first level, and 0 where it is none
+abbrev pub level_of_net : ℕ → FlatNet → ℕ
+level_of_net source net = cond (is_given net.kind) source 0
 
 -- each hold's net has at least the hold's size
 abbrev pub HasHolds : List Hold → List ℕ → Type 0

@@ -8,6 +8,7 @@ ghost use Rattle.plain_paths.specs.declared.channels.Channel.{Channel as Channel
 ghost use Rattle.vrt_model.proofs.Clear.{HopFits, RootFits};
 ghost use Rattle.vrt_model.proofs.Marks.{HasRootMarks};
 ghost use Rattle.vrt_model.specs.Networks.{HasBound};
+ghost use Rattle.vrt_model.specs.Levels.{source_level};
 ghost use Rattle.vrt_model.specs.Lists.{At, Among, bit_at, MarksGrow, mark_at};
 ghost use Rattle.vrt_model.specs.Path.{IsOn, Network};
 ghost use Rattle.vrt_model.specs.Reading.{is_given};
@@ -17,7 +18,6 @@ ghost use Rattle.vrt_model.specs.declared.circuit.FlatNet.{FlatNet as FlatNetVal
 ghost use Rattle.vrt_model.specs.declared.circuit.Hold.{Hold as HoldValue};
 
 use crate::channels::{Channel, bit};
-use crate::strengths::SOURCE_LEVEL;
 use std::alloc::Global;
 use vrt_model::{Circuit, FlatNet, NetKind, NoMemory};
 
@@ -115,17 +115,12 @@ fn mark_given(
     requires len { length marks.old ≡ length circuit.now.nets }
     requires strengths_len { length strengths.now ≡ length marks.old }
     ensures grown { MarksGrow marks.old marks.new }
-    ensures given { (at : ℕ) (net : FlatNetValue) → At circuit.now.nets at net → is_given net.kind ≡ true → slice_index strengths.now at ≡ 8 → bit_at reading.now at ≡ value → mark_at marks.new at ≡ true }
+    ensures given { (at : ℕ) (net : FlatNetValue) → At circuit.now.nets at net → is_given net.kind ≡ true → slice_index strengths.now at ≡ source_level circuit.now → bit_at reading.now at ≡ value → mark_at marks.new at ≡ true }
     ensures marked { (w : Network) → IsOver circuit.now w → w.given ≡ bit_at reading.now → Marked w strengths.now value marks.old → Marked w strengths.now value marks.new }
 {
+    let source = circuit.source_level();
     for (at, net) in circuit.nets.as_slice().iter().enumerate() {
-        let fits = fits_root(
-            is_root(net),
-            SOURCE_LEVEL,
-            strengths[at],
-            bit(reading, at),
-            value,
-        );
+        let fits = fits_root(is_root(net), source, strengths[at], bit(reading, at), value);
         mark(marks, at, fits);
     }
 }

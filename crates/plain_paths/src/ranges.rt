@@ -1,7 +1,8 @@
 //! Whether a circuit has no whole instance, and its numbers, levels and sizes in range.
 
-ghost use Rattle.std.specs.Prelude.{◌<◌, ◌↔◌, IsTrue, All, length};
+ghost use Rattle.std.specs.Prelude.{◌≡◌, ◌<◌, ◌↔◌, IsTrue, All, length};
 ghost use Rattle.vrt_model.specs.Circuits.{IsDevice, IsEnd, IsHold, IsFlat};
+ghost use Rattle.vrt_model.specs.Levels.{least_level};
 
 use vrt_model::{Circuit, Device, Hold, HoldEnd, Net};
 
@@ -12,15 +13,22 @@ fn is_net(circuit: &Circuit, net: Net) -> bool
     (net.0 as usize) < circuit.nets.len()
 }
 
-/// Whether the nets of a device are in range, and its level from 4 to 7.
+/// The least level of a device.
+fn least_level(circuit: &Circuit) -> u8
+    ensures { result ≡ least_level circuit.now }
+{
+    if circuit.source == 15 { 6 } else { 4 }
+}
+
+/// Whether the nets of a device are in range, and its level is one of devices.
 fn is_device(circuit: &Circuit, device: &Device) -> bool
     ensures { IsTrue result ↔ IsDevice circuit.now device.now }
 {
     is_net(circuit, device.gate)
         && is_net(circuit, device.left)
         && is_net(circuit, device.right)
-        && 4 <= device.level
-        && device.level <= 7
+        && least_level(circuit) <= device.level
+        && device.level < circuit.source_level()
 }
 
 /// Whether an end is a net of the circuit, or of an instance of it or the checked cell.
@@ -37,11 +45,14 @@ fn is_end(circuit: &Circuit, end: &HoldEnd) -> bool
     }
 }
 
-/// Whether the net and the end of a hold are in range, and its size from 1 to 3.
+/// Whether the net and the end of a hold are in range, and its size is one of holds.
 fn is_hold(circuit: &Circuit, hold: &Hold) -> bool
     ensures { IsTrue result ↔ IsHold circuit.now hold.now }
 {
-    is_net(circuit, hold.net) && 1 <= hold.size && hold.size <= 3 && is_end(circuit, &hold.end)
+    is_net(circuit, hold.net)
+        && 1 <= hold.size
+        && hold.size < least_level(circuit)
+        && is_end(circuit, &hold.end)
 }
 
 /// Whether the nets and levels of all devices are in range.

@@ -24,10 +24,10 @@ pub enum Response {
     Bit(bool),
 }
 
-/// The signals of a circuit at one valuation, by the numbers of the nets: the strength of each net, from 0 to 8, and
+/// The signals of a circuit at one valuation, by the numbers of the nets: the strength of each net, from 0 to the source level, and
 /// whether a clear path from a root of value 0, and of value 1, ends there.
 pub struct Signals {
-    /// The greatest level of a path that ends at the net, 1 to 8, and 0 where none does (Bryant 1984).
+    /// The greatest level of a path that ends at the net, and 0 where none does (Bryant 1984).
     pub strengths: Vec<u8>,
     /// Whether the value 0 reaches the net.
     pub zeros: Vec<bool>,

@@ -6,6 +6,7 @@ ghost use Rattle.vrt_model.specs.Circuits.{IsFlat};
 ghost use Rattle.plain_paths.specs.Tables.{HasGrown, HasHolds, HasPassed, HasRoots, IsAttained, level_of_net};
 ghost use Rattle.plain_paths.specs.declared.channels.Channel.{Channel as ChannelValue};
 ghost use Rattle.vrt_model.specs.Networks.{HasBound};
+ghost use Rattle.vrt_model.specs.Levels.{source_level};
 ghost use Rattle.vrt_model.specs.Lists.{Among};
 ghost use Rattle.vrt_model.specs.Path.{IsOn, Network};
 ghost use Rattle.vrt_model.specs.Reading.{is_given};
@@ -15,9 +16,6 @@ ghost use Rattle.vrt_model.specs.declared.circuit.Device.{Device};
 use crate::channels::Channel;
 use std::alloc::Global;
 use vrt_model::{Circuit, FlatNet, NetKind, NoMemory};
-
-/// The level of a supply, an input and a clock port.
-pub(crate) const SOURCE_LEVEL: u8 = 8;
 
 /// Takes the level that passes from one net to another over a device, where it is greater: the lesser of the net's
 /// level and the device's.
@@ -81,22 +79,23 @@ fn pass_all(channels: &[Channel], table: &mut [u8])
     }
 }
 
-/// The level that a net has as a root by its kind, and 0 where it is none.
-fn given_level(net: &FlatNet) -> u8
-    ensures { result ≡ level_of_net net.now }
+/// The level that a net has as a root by its kind, where sources have the first level, and 0 where it is none.
+fn given_level(source: u8, net: &FlatNet) -> u8
+    ensures { result ≡ level_of_net source net.now }
 {
     match net.kind {
         NetKind::Plain => 0,
-        _ => SOURCE_LEVEL,
+        _ => source,
     }
 }
 
 /// The level that each net has as a root by its kind.
 fn given_levels(alloc: Global, circuit: &Circuit) -> Result<Vec<u8>, NoMemory>
-    ensures { IfOk result (λ t. t.items ≡ map level_of_net circuit.now.nets) }
+    ensures { IfOk result (λ t. t.items ≡ map (level_of_net (source_level circuit.now)) circuit.now.nets) }
 {
+    let source = circuit.source_level();
     let nets = circuit.nets.as_slice().iter();
-    match nets.map(given_level).collect(alloc) {
+    match nets.map(|net| given_level(source, net)).collect(alloc) {
         Ok(levels) => Ok(levels),
         Err(_) => Err(NoMemory),
     }
@@ -131,7 +130,7 @@ fn add_holds(circuit: &Circuit, table: &mut [u8])
 fn raise_strengths(circuit: &Circuit, channels: &[Channel], table: &mut [u8])
     requires circuit { IsFlat circuit.now }
     requires fits { All (IsInRange (length circuit.now.nets)) channels.now }
-    requires given { table.old ≡ map level_of_net circuit.now.nets }
+    requires given { table.old ≡ map (level_of_net (source_level circuit.now)) circuit.now.nets }
     ensures { (w : Network) → IsOver circuit.now w → HasBound w (length circuit.now.nets) → HasChannels w channels.now → (n : ℕ) → IsStrength w n (slice_index table.new n) }
 {
     add_holds(circuit, table);

@@ -8,6 +8,7 @@ use Rattle.replaced_cells.specs.OneMoreWhole.{IsOneMoreWhole}
 use Rattle.vrt_model.proofs.Filtered.{device_among}
 use Rattle.vrt_model.proofs.Laws.{shows_from}
 use Rattle.vrt_model.specs.Comparison.{Comparison}
+use Rattle.vrt_model.specs.Levels.{source_level}
 use Rattle.vrt_model.specs.Lists.{At}
 use Rattle.vrt_model.specs.Path.{Hop, IsPath, IsRoot, Network, Root, end_of, level_of, level_of_drive}
 use Rattle.vrt_model.specs.Response.{Fight, IsResponse, Reaches, Shows}
@@ -28,16 +29,17 @@ module _ (k q : Comparison) (phase : ℕ) (whole_circuit : Circuit) (at place fr
   view = network_of whole_circuit bare held r
 
   -- a pin at an exposed net is not above its drive
-  pin_below : (n j : ℕ) (out : OutputPin) → exposed n ≡ true → At (output_pins whole_circuit) j out → out.pin.net.0 ≡ at n → level_of_drive 8 out.pin.drive ≤ drive n
+  pin_below : (n j : ℕ) (out : OutputPin) → exposed n ≡ true → At (output_pins whole_circuit) j out → out.pin.net.0 ≡ at n → level_of_drive (source_level whole_circuit) out.pin.drive ≤ drive n
   pin_below n j out e there net =
       let plain = one.placed.exposed_plain n e in
       elim (one.whole.pins_back j out there) [
         | inl old ↦
             let le = (one.placed.pins old.1 n (old.0, old.2) plain (sym old.4.net ∙ net)).1 in
-            let same : level_of_drive 8 out.pin.drive ≡ level_of_drive 8 old.1.pin.drive = ap (level_of_drive 8) old.4.drive in omega (arith, le, same)
+            let same : level_of_drive (source_level whole_circuit) out.pin.drive ≡ level_of_drive (source_level k.circuit) old.1.pin.drive =
+            ap (level_of_drive (source_level whole_circuit)) old.4.drive ∙ ap (λ (x : ℕ). level_of_drive x old.1.pin.drive) (sym one.whole.source) in omega (arith, le, same)
         | inr own ↦ elim (one.placed.apart own.0 n own.2.plain plain (sym own.2.net ∙ net)) [
-          | inl same ↦ (let level : level_of_drive 8 out.pin.drive ≡ drive n = own.2.level (subst (λ (x : ℕ). exposed x ≡ true) (sym same) e) ∙ ap drive same in omega (arith, level))
-          | inr both ↦ (let level : level_of_drive 8 out.pin.drive ≡ drive n = own.2.level both.0 ∙ both.2 in omega (arith, level))
+          | inl same ↦ (let level : level_of_drive (source_level whole_circuit) out.pin.drive ≡ drive n = own.2.level (subst (λ (x : ℕ). exposed x ≡ true) (sym same) e) ∙ ap drive same in omega (arith, level))
+          | inr both ↦ (let level : level_of_drive (source_level whole_circuit) out.pin.drive ≡ drive n = own.2.level both.0 ∙ both.2 in omega (arith, level))
         ]
       ]
 
@@ -50,7 +52,7 @@ module _ (k q : Comparison) (phase : ℕ) (whole_circuit : Circuit) (at place fr
   root_below n root e ends (inr (inr o)) =
       let out = pin_found whole_circuit o.0 o.1 o.2 in
       let le = pin_below n o.0 out.0 e out.1 (ap (λ (x : WholePin). x.net.0) out.2 ∙ sym o.3 ∙ ends) in
-      let level : root.level ≡ level_of_drive 8 out.0.pin.drive = o.4 ∙ ap (λ (x : WholePin). level_of_drive 8 x.drive) (sym out.2) in omega (arith, le, level)
+      let level : root.level ≡ level_of_drive (source_level whole_circuit) out.0.pin.drive = o.4 ∙ ap (λ (x : WholePin). level_of_drive (source_level whole_circuit) x.drive) (sym out.2) in omega (arith, le, level)
 
   -- nor is a path that ends there
   path_below : (n : ℕ) (root : Root) (hops : List Hop) → exposed n ≡ true → IsPath view root hops → end_of root hops ≡ at n → level_of root hops ≤ drive n

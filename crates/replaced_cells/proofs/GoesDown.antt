@@ -25,6 +25,7 @@ use Rattle.vrt_model.specs.Equal.{Agree}
 use Rattle.vrt_model.specs.Faults.{BreaksConstraint, Responds, Solves}
 use Rattle.vrt_model.specs.Held.{setting_of}
 use Rattle.vrt_model.specs.Known.{IsPlain}
+use Rattle.vrt_model.specs.Levels.{source_level}
 use Rattle.vrt_model.specs.Lists.{At}
 use Rattle.vrt_model.specs.Path.{Network}
 use Rattle.vrt_model.specs.Reading.{HasGivenBit, IsReading, Partial, bare, is_given}
@@ -95,7 +96,7 @@ module _ (k q : Comparison) (phase : ℕ) (whole_circuit : Circuit) (at place fr
   view = network_of whole_circuit bare setting.held first_state
 
   response : (n : ℕ) → (x : Response) × IsResponse view n x
-  response n = some_response view (length whole_circuit.nets) 8 (network_finite whole_circuit bare setting.held first_state one.whole_ranges) n
+  response n = some_response view (length whole_circuit.nets) (source_level whole_circuit) (network_finite whole_circuit bare setting.held first_state one.whole_ranges) n
 
   second : ℕ → Bool
   second n = unwrap_or (shown_by (response n).0) (first n)

@@ -40,8 +40,8 @@ module _ (k : Comparison) (phase : ℕ) (c d : Circuit) (gs hs : List Group) (a 
 
   -- what a ought to give a net here, b ought to give it there, and the net has the same bit in both
   pub differs_wanted : (g : Assignment) (at n : ℕ) (w : Option Bool) → WantsValue here phase a g Differs at n w → WantsValue there phase b g Differs at n w × (a n ≡ b n)
-  differs_wanted g at n w (port, signal, is, out, seen, net, want) =
-      ((port, signal, is, out, seen, net, want), subst (λ (x : ℕ). a x ≡ b x) (sym net) (port_bits at signal port is out seen))
+  differs_wanted g at n w (port, signal, is, out, seen, asked, net, want) =
+      ((port, signal, is, out, seen, asked, net, want), subst (λ (x : ℕ). a x ≡ b x) (sym net) (port_bits at signal port is out seen))
 
   pub next_wanted : (g : Assignment) (at n : ℕ) (w : Option Bool) → WantsValue here phase a g Next at n w → WantsValue there phase b g Next at n w × (a n ≡ b n)
   next_wanted g at n w (net, (place, group, m, e, held, element, want)) =

@@ -24,6 +24,7 @@ use Rattle.vrt_model.proofs.Decidable.{some_response}
 use Rattle.vrt_model.proofs.Filtered.{among_devices, device_among}
 use Rattle.vrt_model.proofs.Members.{all_among}
 use Rattle.vrt_model.proofs.Networks.{network_finite}
+use Rattle.vrt_model.proofs.Scales.{least_below}
 use Rattle.vrt_model.specs.Circuits.{IsDevice, IsHold}
 use Rattle.vrt_model.specs.Comparison.{Comparison, is_observed, phase_at}
 use Rattle.vrt_model.specs.Constraints.{Meets}
@@ -32,6 +33,7 @@ use Rattle.vrt_model.specs.Faults.{Solves}
 use Rattle.vrt_model.specs.Held.{setting_of}
 use Rattle.vrt_model.specs.Known.{IsPlain, IsTogether, is_plain_at}
 use Rattle.vrt_model.specs.Known.IsTogether.{itself, onward}
+use Rattle.vrt_model.specs.Levels.{source_level}
 use Rattle.vrt_model.specs.Lists.{Among, At}
 use Rattle.vrt_model.specs.Networks.{HasRanges}
 use Rattle.vrt_model.specs.Path.{Hop, IsPath, Network, Root, level_of}
@@ -44,6 +46,7 @@ use Rattle.vrt_model.specs.declared.rules.Phase.{Phase}
 use Rattle.vrt_model.specs.declared.verdict.FaultKind.TheVariants.{Unsettled}
 use Rattle.vrt_model.specs.declared.whole.Whole.{Whole}
 use Rattle.whole_ranks.proofs.KnownLaws.{known_nets_are_solved}
+use Rattle.whole_solutions.proofs.LeastLevels.{least_above}
 use Rattle.whole_solutions.proofs.ObservedCases.{gate_observed}
 
 -- ---- circuits without whole instances
@@ -52,7 +55,7 @@ use Rattle.whole_solutions.proofs.ObservedCases.{gate_observed}
 path_level : (c : Circuit) (which : Bool) (held : ℕ → Bool) (s : State) → HasRanges c → c.wholes ≡ [] → (root : Root) (hops : List Hop) → IsPath (network_of c which held s) root hops → 0 < level_of root hops
 path_level c which held s ranges none root [] p =
     elim p [
-      | inl g ↦ (let is : root.level ≡ 8 = g.3 in omega (arith, is))
+      | inl g ↦ (let is : root.level ≡ source_level c = g.3 in let below = least_below c in omega (arith, is, below))
       | inr other ↦ elim other [
         | inl h ↦ (let is = h.4 in let some = (all_among (IsHold c) c.holds h.1 ranges.holds (h.0, h.2)).size.0 in omega (arith, is, some))
         | inr o ↦ (let out = pin_found c o.0 o.1 o.2 in absurd (no_pins c none o.0 out.0 out.1))
@@ -61,7 +64,8 @@ path_level c which held s ranges none root [] p =
 path_level c which held s ranges none root (hop ∷ hops) p =
     let before = path_level c which held s ranges none root hops p.0 in
     let some = (all_among (IsDevice c) c.devices hop.device ranges.devices (device_among which c hop.device p.1.0).0).level.0 in
-    omega (arith, before, some)
+    let above = least_above c in
+    omega (arith, before, some, above)
 
 -- a part lies in one of the kept circuit
 together_kept : (c : Circuit) (phase : Phase) (which : Bool) (m n : ℕ) → IsTogether c phase which m n → IsTogether c phase kept m n
@@ -122,7 +126,7 @@ module _ (k q : Comparison) (phase : ℕ) (whole_circuit : Circuit) (at place fr
   pub own_shows : (which : Bool) (n : ℕ) → is_observed q phase n ≡ true → IsResponse (cell which) n (Shows (s.reading (at n)))
   own_shows true n o = solution_shows q phase there first own_state own_determined own.cell_solves n o
   own_shows false n o =
-      let response = some_response (cell kept) (length q.circuit.nets) 8 (network_finite q.circuit kept there.held first one.cell.ranges) n in
+      let response = some_response (cell kept) (length q.circuit.nets) (source_level q.circuit) (network_finite q.circuit kept there.held first one.cell.ranges) n in
       shows_surely (cell kept) n (s.reading (at n)) response.0 response.1
       (λ never. equal.no_fault solution equal.assignment.0 own.cell_solves equal.assignment.1 Unsettled n (o, never_there q phase there first own_state own_determined n never))
 

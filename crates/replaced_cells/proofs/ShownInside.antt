@@ -22,6 +22,7 @@ use Rattle.vrt_model.specs.Comparison.{Comparison, is_observed, phase_at}
 use Rattle.vrt_model.specs.Faults.{Solves}
 use Rattle.vrt_model.specs.Held.{setting_of}
 use Rattle.vrt_model.specs.Known.{IsPlain}
+use Rattle.vrt_model.specs.Levels.{source_level}
 use Rattle.vrt_model.specs.Lists.{Among}
 use Rattle.vrt_model.specs.Path.{Network}
 use Rattle.vrt_model.specs.Reading.{HasGivenBit, IsReading, Partial, bare, is_given}
@@ -61,7 +62,7 @@ module _ (k q : Comparison) (phase : ℕ) (whole_circuit : Circuit) (at place fr
   -- ---- what each net shows
 
   response : (n : ℕ) → (r : Response) × IsResponse (view first) n r
-  response n = some_response (view first) (length q.circuit.nets) 8 (network_finite q.circuit bare own.held first one.cell.ranges) n
+  response n = some_response (view first) (length q.circuit.nets) (source_level q.circuit) (network_finite q.circuit bare own.held first one.cell.ranges) n
 
   pub shown : Partial
   shown n = shown_by (response n).0

@@ -9,6 +9,7 @@ use Rattle.checked_chain.proofs.DriveLaws.{nothing_in}
 use Rattle.replaced_instances.proofs.Exposures.{channel_at_net}
 use Rattle.vrt_model.proofs.Filtered.{device_among}
 use Rattle.vrt_model.proofs.Members.{all_among}
+use Rattle.vrt_model.proofs.Scales.{least_below}
 use Rattle.vrt_model.specs.Circuits.{IsDevice}
 use Rattle.vrt_model.specs.Comparison.{Comparison, is_observed, phase_at}
 use Rattle.vrt_model.specs.Constraints.{Meets}
@@ -16,6 +17,7 @@ use Rattle.vrt_model.specs.Equal.{IsEqual}
 use Rattle.vrt_model.specs.Faults.{Solves}
 use Rattle.vrt_model.specs.Held.{setting_of}
 use Rattle.vrt_model.specs.Known.{IsPlain}
+use Rattle.vrt_model.specs.Levels.{source_level}
 use Rattle.vrt_model.specs.Lists.{Among, At, is_empty}
 use Rattle.vrt_model.specs.Networks.{HasRanges}
 use Rattle.vrt_model.specs.Path.{Hop, IsOn, IsPath, IsRoot, Joins, Root, end_of, level_of}
@@ -30,6 +32,7 @@ use Rattle.vrt_model.specs.declared.circuit.Hold.{Hold}
 use Rattle.vrt_model.specs.declared.verdict.FaultKind.TheVariants.{Float as FloatFault}
 use Rattle.vrt_model.specs.declared.whole.Whole.{Whole}
 use Rattle.vrt_model.specs.declared.whole.WholePin.{WholePin}
+use Rattle.whole_solutions.proofs.LeastLevels.{least_above}
 
 first_of : {X : Type 0} (xs : List X) → (is_empty xs ≡ true → ⊥) → (x : X) × Among xs x
 first_of [] some = absurd (some refl)
@@ -75,7 +78,7 @@ channel_there k n phase lt equal holds wholes plain seen =
 -- ---- strengths
 
 module _ (c : Circuit) (ranges : HasRanges c) (holds : c.holds ≡ []) (wholes : c.wholes ≡ []) where
-  root_level : (which : Bool) (held : ℕ → Bool) (s : State) (root : Root) → IsRoot (network_of c which held s) root → root.level ≡ 8
+  root_level : (which : Bool) (held : ℕ → Bool) (s : State) (root : Root) → IsRoot (network_of c which held s) root → root.level ≡ source_level c
   root_level which held s root r =
       elim r [
         | inl g ↦ g.3
@@ -86,12 +89,13 @@ module _ (c : Circuit) (ranges : HasRanges c) (holds : c.holds ≡ []) (wholes :
       ]
 
   path_above : (which : Bool) (held : ℕ → Bool) (s : State) (root : Root) (hops : List Hop) → IsPath (network_of c which held s) root hops → 0 < level_of root hops
-  path_above which held s root [] path = let level = root_level which held s root path in omega (arith, level)
+  path_above which held s root [] path = let level = root_level which held s root path in let below = least_below c in omega (arith, level, below)
   path_above which held s root (hop ∷ hops) path =
       let before = path_above which held s root hops path.0 in
       let there = (device_among which c hop.device path.1.0).0 in
       let level = (all_among (IsDevice c) c.devices hop.device ranges.devices there).level.0 in
-      omega (arith, before, level)
+      let some = least_above c in
+      omega (arith, before, level, some)
 
 pub shown_above : (k : Comparison) (n phase : ℕ) (bits : List Bool) (a : Partial) (s : State) (level : ℕ) → HasRanges k.circuit → k.circuit.holds ≡ [] → k.circuit.wholes ≡ [] → IsEqual k
     → phase < length k.rules.phases → Meets k phase bits → Solves k phase (setting_of k phase bits) a

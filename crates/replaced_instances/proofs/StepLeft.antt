@@ -27,6 +27,7 @@ use Rattle.replaced_instances.specs.Steps.{IsStep, StepIsLeftWhole, compared_at,
 use Rattle.vrt_model.proofs.Filtered.{among_kept, filter_among}
 use Rattle.vrt_model.proofs.Lists.{at_back, at_either, at_front, at_map, map_at, one_at}
 use Rattle.vrt_model.proofs.Members.{among_any, any_among}
+use Rattle.vrt_model.proofs.Scales.{same_source}
 use Rattle.vrt_model.proofs.Tests.{same_tests}
 use Rattle.vrt_model.specs.Checked.{IsCircuitWith, before}
 use Rattle.vrt_model.specs.CheckedParts.{checked_devices, moved_end}
@@ -35,6 +36,7 @@ use Rattle.vrt_model.specs.Cut.{Cut, NumberedPlace}
 use Rattle.vrt_model.specs.Facts.{output_ports}
 use Rattle.vrt_model.specs.FlatCircuit.{flat_circuit_of, flat_holds}
 use Rattle.vrt_model.specs.Known.{IsPlain, is_plain_at, is_plain_kind}
+use Rattle.vrt_model.specs.Levels.{source_level}
 use Rattle.vrt_model.specs.Lists.{Among, At, is_empty}
 use Rattle.vrt_model.specs.Path.{level_of_drive}
 use Rattle.vrt_model.specs.State.{OutputPin, output_pins}
@@ -356,7 +358,7 @@ module _ {at_gates : Bool} (cut : Cut) (blif : Blif) (facts : List CellFacts) (i
   module _ (whole_circuit : Circuit) (after : IsCircuitWith (before cut (suc i)) blif facts whole_circuit) where
     fresh_pin : (l : ℕ) (o : OutputAt) (port : CellPort) (pin : OutputPin) → At outs l o → At (output_ports k) l port → o.output ≡ l → o.pin.net.0 ≡ at port.net
         → pin.pin ≡ settled (before cut (suc i)) blif facts o
-        → (fresh_place (before cut i) blif facts k port.net ≡ length earlier + l) × IsFreshPin k.circuit at (λ n. n) remaining exposed drive port.net pin
+        → (fresh_place (before cut i) blif facts k port.net ≡ length earlier + l) × IsFreshPin (source_level whole_circuit) k.circuit at (λ n. n) remaining exposed drive port.net pin
     fresh_pin l o port pin here port_here number net is =
         let plain = output_plain cut blif facts i p m step port (l, port_here) in
         let out = port_outside t p.at (suc i) depth front back split (tied cut blif facts i p m step) (none cut blif facts i p m step) port.net plain.0 in (
@@ -367,13 +369,13 @@ module _ {at_gates : Bool} (cut : Cut) (blif : Blif) (facts : List CellFacts) (i
             stays = outside_is t depth p.at (at port.net) out;
             level = λ e.
                 let more = exposure.outputs o port (subst (λ (x : ℕ). At outs x o) (sym number) here) (subst (λ (x : ℕ). At (output_ports k) x port) (sym number) port_here) e in
-                ap (λ (x : WholePin). level_of_drive 8 x.drive) is ∙ ap₂ (λ (b : Bool) (d : Drive). level_of_drive 8 (cond b Soft d)) more.more more.told;
+                ap (λ (x : WholePin). level_of_drive (source_level whole_circuit) x.drive) is ∙ ap₂ (λ (b : Bool) (d : Drive). level_of_drive (source_level whole_circuit) (cond b Soft d)) more.more more.told;
           },
         )
 
     -- each exposed output has its pin
     fresh_there : (n : ℕ) → exposed n ≡ true
-        → (pin : OutputPin) × At (output_pins whole_circuit) (fresh_place (before cut i) blif facts k n) pin × IsFreshPin k.circuit at (λ n. n) remaining exposed drive n pin
+        → (pin : OutputPin) × At (output_pins whole_circuit) (fresh_place (before cut i) blif facts k n) pin × IsFreshPin (source_level whole_circuit) k.circuit at (λ n. n) remaining exposed drive n pin
     fresh_there n e =
         let port = exposure.ports n e in
         let l = port.1.0 in
@@ -381,12 +383,12 @@ module _ {at_gates : Bool} (cut : Cut) (blif : Blif) (facts : List CellFacts) (i
         let there = subst (λ (os : List OutputAt). At os (length earlier + l) o.0) (sym (outputs_behind cut i p step.place step.chosen blif facts)) (at_back earlier outs l o.0 o.1) in
         let pin = output_pin (before cut (suc i)) blif facts whole_circuit after (length earlier + l) o.0 there in
         let fresh = fresh_pin l o.0 port.0 pin.0 o.1 port.1.1 o.3 o.2 pin.2 in
-        subst (λ (x : ℕ). (pin : OutputPin) × At (output_pins whole_circuit) (fresh_place (before cut i) blif facts k x) pin × IsFreshPin k.circuit at (λ n. n) remaining exposed drive x pin) port.2
+        subst (λ (x : ℕ). (pin : OutputPin) × At (output_pins whole_circuit) (fresh_place (before cut i) blif facts k x) pin × IsFreshPin (source_level whole_circuit) k.circuit at (λ n. n) remaining exposed drive x pin) port.2
         (pin.0, subst (λ (j : ℕ). At (output_pins whole_circuit) j pin.0) (sym fresh.0) pin.1, fresh.1)
 
     old_or_fresh : (j : ℕ) (pin : OutputPin) → At (output_pins whole_circuit) j pin
         → ((l : ℕ) × (out : OutputPin) × At (output_pins c) l out × (l ≡ j) × IsLeftPin (λ n. n) remaining out pin)
-        ⊎ ((n : ℕ) × (fresh_place (before cut i) blif facts k n ≡ j) × IsFreshPin k.circuit at (λ n. n) remaining exposed drive n pin)
+        ⊎ ((n : ℕ) × (fresh_place (before cut i) blif facts k n ≡ j) × IsFreshPin (source_level whole_circuit) k.circuit at (λ n. n) remaining exposed drive n pin)
     old_or_fresh j pin here =
         let o = pin_output (before cut (suc i)) blif facts whole_circuit after j pin here in
         elim (at_either earlier outs j o.0 (subst (λ (os : List OutputAt). At os j o.0) (outputs_behind cut i p step.place step.chosen blif facts) o.1)) [
@@ -401,6 +403,7 @@ module _ {at_gates : Bool} (cut : Cut) (blif : Blif) (facts : List CellFacts) (i
 
     pub left_whole : IsLeftWhole k.circuit c whole_circuit at (λ n. n) (λ j. j) (fresh_place (before cut i) blif facts k) remaining compared exposed drive
     left_whole = record {
+      source = (same_source c whole_circuit 0 (circuit.source ∙ sym after.source)).0;
       nets = λ n net stays here. (net, subst (λ (nets : List FlatNet). At nets n net) (circuit.nets ∙ sym after.nets) here, refl);
       nets_back = λ n net stays here. (net, subst (λ (nets : List FlatNet). At nets n net) (after.nets ∙ sym circuit.nets) here, refl);
       moved_apart = λ a b one other same. same;

@@ -29,6 +29,7 @@ use Rattle.vrt_model.specs.Cut.{Cut, NumberedPlace, is_whole, numbered_places, w
 use Rattle.vrt_model.specs.Facts.{output_ports}
 use Rattle.vrt_model.specs.FlatCircuit.{flat_circuit_of, kind_by_role, flat_holds, flat_nets}
 use Rattle.vrt_model.specs.Known.{IsHeld, IsPlain}
+use Rattle.vrt_model.specs.Levels.{source_level}
 use Rattle.vrt_model.specs.Lists.{Among, At, is_empty}
 use Rattle.vrt_model.specs.Path.{level_of_drive}
 use Rattle.vrt_model.specs.State.{OutputPin, output_pins}
@@ -190,7 +191,7 @@ module _ {at_gates : Bool} (cut : Cut) (blif : Blif) (facts : List CellFacts) (i
 
     -- an output of another instance that is at one has its drive, soft or not
     pin_at_net : (out : OutputPin) (n : ℕ) → n < base → Among (output_pins c) out → IsPlain k.circuit n → out.pin.net.0 ≡ at n
-        → (exposed n ≡ true) × (level_of_drive 8 out.pin.drive ≤ drive n)
+        → (exposed n ≡ true) × (level_of_drive (source_level c) out.pin.drive ≤ drive n)
     pin_at_net out n lt on plain same =
         elim (cases_Bool (exposed n)) [
           | inr none_of ↦ absurd (no_other_at remaining later o.1 one.0 (is_alone n o none_of) other)
@@ -198,9 +199,9 @@ module _ {at_gates : Bool} (cut : Cut) (blif : Blif) (facts : List CellFacts) (i
               let is = is_exposed n o more in
               let gates = not_alone (checked_devices (before cut i)) earlier one.0 is.met.0
               (subst (λ (x : ℕ). Among (channels_at (checked_devices (before cut i)) x) is.met.0) (sym net) is.met.1) in
-              let level : level_of_drive 8 out.pin.drive ≡ drive n =
-              ap (λ (x : WholePin). level_of_drive 8 x.drive) (sym one.3)
-              ∙ ap₂ (λ (b : Bool) (d : Drive). level_of_drive 8 (cond b Soft d)) gates (other_drive remaining later o.1 (drive n) is.fits one.0 other) in
+              let level : level_of_drive (source_level c) out.pin.drive ≡ drive n =
+              ap (λ (x : WholePin). level_of_drive (source_level c) x.drive) (sym one.3)
+              ∙ ap₂ (λ (b : Bool) (d : Drive). level_of_drive (source_level c) (cond b Soft d)) gates (other_drive remaining later o.1 (drive n) is.fits one.0 other) in
               (more, omega (arith, level))
         ]
       where

@@ -1,5 +1,5 @@
 -- One further instance of a circuit is left whole. Its outputs then meet gates alone, or are exposed to channels and to other outputs.
-use Rattle.std.specs.Prelude.{◌≡◌, ℕ, suc, ◌+◌, ◌<◌, ◌&&◌, ◌||◌, Bool, true, false, not, List, filter, length, None, nat_le, nat_lt, option_map, slice_get, unwrap_or, ◌==◌}
+use Rattle.std.specs.Prelude.{◌≡◌, ℕ, suc, ◌+◌, ◌<◌, ◌&&◌, ◌||◌, Bool, true, false, not, List, filter, length, None, nat_le, nat_lt, option_map, slice_get, unwrap_or, ◌==◌, []}
 use Rattle.std.specs.List.{list_any}
 use Rattle.cell_inside.specs.LeftWhole.{IsLeftWhole}
 use Rattle.cell_inside.specs.Placed.{IsPlaced}
@@ -12,6 +12,7 @@ use Rattle.vrt_model.specs.CheckedParts.{checked_devices}
 use Rattle.vrt_model.specs.Comparison.{CellPort, Comparison, cell_at}
 use Rattle.vrt_model.specs.Cut.{Cut, NumberedPlace, is_inside_whole, numbered_places}
 use Rattle.vrt_model.specs.Facts.{IsTrueOf, output_ports}
+use Rattle.vrt_model.specs.FlatBlif.{model_at}
 use Rattle.vrt_model.specs.Hierarchy.{IsOrdered}
 use Rattle.vrt_model.specs.Inputs.{IsDesign}
 use Rattle.vrt_model.specs.Known.{IsHeld, IsPlain, is_plain_at}
@@ -39,11 +40,12 @@ pub record IsSoundNetlist (t : Top) : Type 0 where
 abbrev pub compared_at : Top → Blif → NumberedPlace → ℕ → Comparison
 compared_at t blif p m = comparison_of t.design blif t.rules p.at.cell m
 
--- an instance meets what is asked of one that is left whole besides those of the choice, but for cycles: its cell allows it, and its outputs are
--- plain nets without holds and are allowed
+-- an instance meets what is asked of one that is left whole besides those of the choice, but for cycles: its cell allows it, its model has no
+-- don't-care network, and its outputs are plain nets without holds and are allowed
 pub record IsAllowedInstance (cut : Cut) (blif : Blif) (facts : List CellFacts) (i : ℕ) (p : NumberedPlace) (m : ℕ) : Type 0 where
   pub paired : paired_model cut.top.design blif cut.top.rules p.at.cell ≡ Model m
   pub cell : is_cell_allowed cut.top facts (compared_at cut.top blif p m) ≡ true
+  pub cared : (model_at blif m).exdc ≡ []
   pub plain :
       (o : OutputAt) → Among (outputs_of_place cut.top blif facts p) o
       → IsPlain (circuit_with (with_one cut i) blif facts) o.pin.net.0 × (¬ IsHeld (circuit_with (with_one cut i) blif facts) o.pin.net.0)

@@ -1,7 +1,7 @@
 -- What a line says is what it says as one with a list of words, or as one without.
 use Rattle.std.proofs.Common.{◌≡◌, ◌∷◌, ◌<◌, ◌||◌, [], ℕ, List, Bool, true, false, cond, length, codes, bytes_eq, Option, None, refl, sym, subst, arith}
 use Rattle.std.proofs.lemmas.Slice.Eq.{bytes_eq-Decides}
-use Rattle.rules_lines.specs.Lines.{assume_entry, clock_entry, clockport_entry, defaultclock_entry, device_entry, enter_entry, entry_by, hold_entry, keeper_entry, match_entry, observe_entry, pair_entry, phase_entry, port_entry, strength_entry, supply_entry}
+use Rattle.rules_lines.specs.Lines.{assume_entry, clock_entry, clockport_entry, defaultclock_entry, device_entry, enter_entry, entry_by, hold_entry, keeper_entry, match_entry, observe_entry, pair_entry, phase_entry, port_entry, scale_entry, strength_entry, supply_entry}
 use Rattle.rules_lines.specs.Long.{is_long, long_entry, short_entry}
 use Rattle.rules_lines.specs.declared.entry.Entry.{Entry}
 
@@ -12,7 +12,8 @@ test word name = bytes_eq word name
 -- what a line says, where these tests of its first word answer so
 abbrev by_tests : List ℕ → List (List ℕ) → Bool → Bool → Bool → Bool → Bool → Bool → Option Entry
 by_tests word rest a b c d e f =
-    cond a (supply_entry rest)
+    cond (test word (codes "scale")) (scale_entry rest)
+    (cond a (supply_entry rest)
     (cond (test word (codes "device")) (device_entry rest)
     (cond (test word (codes "strength")) (strength_entry rest)
     (cond (test word (codes "pair")) (pair_entry rest)
@@ -26,7 +27,7 @@ by_tests word rest a b c d e f =
     (cond (test word (codes "defaultclock")) (defaultclock_entry rest)
     (cond (test word (codes "enter")) (enter_entry rest)
     (cond e (observe_entry rest)
-    (cond f (assume_entry rest) None))))))))))))))
+    (cond f (assume_entry rest) None)))))))))))))))
 
 without : (word : List ℕ) (rest : List (List ℕ)) (a b c d e f : Bool) → (a || b || c || d || e || f) ≡ false → by_tests word rest a b c d e f ≡ short_entry word rest
 without word rest false false false false false false h = refl
@@ -78,7 +79,8 @@ too_many word (a ∷ b ∷ []) h = absurd (omega (arith, h))
 too_many word (a ∷ b ∷ c ∷ []) h = absurd (omega (arith, h))
 too_many word (a ∷ b ∷ c ∷ d ∷ []) h = absurd (omega (arith, h))
 too_many word (a ∷ b ∷ c ∷ d ∷ e ∷ rest) h =
-    no_entry (test word (codes "device")) _ _ refl
+    no_entry (test word (codes "scale")) _ _ refl
+    (no_entry (test word (codes "device")) _ _ refl
     (no_entry (test word (codes "strength")) _ _ refl
     (no_entry (test word (codes "pair")) _ _ refl
     (no_entry (test word (codes "port")) _ _ refl
@@ -86,4 +88,4 @@ too_many word (a ∷ b ∷ c ∷ d ∷ e ∷ rest) h =
     (no_entry (test word (codes "match")) _ _ refl
     (no_entry (test word (codes "clockport")) _ _ refl
     (no_entry (test word (codes "defaultclock")) _ _ refl
-    (no_entry (test word (codes "enter")) _ _ refl refl))))))))
+    (no_entry (test word (codes "enter")) _ _ refl refl)))))))))

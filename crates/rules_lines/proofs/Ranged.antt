@@ -1,23 +1,32 @@
 -- Levels and sizes of lines are in their ranges.
-use Rattle.std.proofs.Common.{◌≡◌, ◌∷◌, ◌≤◌, ◌+◌, ◌-◌, ◌&&◌, ◌||◌, nat_le, not, [], ℕ, List, Bool, true, false, cond, map, Option, Some, None, option_map, codes, bytes_eq, refl, arith}
+use Rattle.std.proofs.Common.{◌≡◌, ◌∷◌, ◌≤◌, ◌+◌, ◌-◌, ◌==◌, ◌&&◌, ◌||◌, ◌⊎◌, nat_le, not, [], ℕ, List, Bool, true, false, cond, map, Option, Some, None, option_map, codes, bytes_eq, refl, arith, inl, inr}
 use Rattle.std.specs.List.{list_all}
 use Rattle.std.proofs.lemmas.Bool.{and_parts, leb-true}
 use Rattle.text_lines.specs.Bytes.{lowered}
 use Rattle.vrt_model.specs.Lists.{is_empty}
-use Rattle.rules_lines.specs.Lines.{assume_entry, clock_entry, clocked_entry, clockport_entry, defaultclock_entry, device_by, device_entry, enter_entry, entry_by, entry_of, has_equals, hold_entry, keeper_entry, match_by, match_entry, observe_entry, pair_entry, phase_entry, port_entry, strength_entry, supply_entry}
-use Rattle.rules_lines.specs.Words.{bit_of, cut_first, kind_of, level_of, size_of}
+use Rattle.rules_lines.specs.Lines.{assume_entry, clock_entry, clocked_entry, clockport_entry, defaultclock_entry, device_by, device_entry, enter_entry, entry_by, entry_of, has_equals, hold_entry, keeper_entry, match_by, match_entry, observe_entry, pair_entry, phase_entry, port_entry, scale_entry, strength_entry, supply_entry}
+use Rattle.rules_lines.specs.Words.{bit_of, cut_first, digit_in, fine_level, kind_of, level_of, size_of, usual_level, usual_size}
+use Rattle.rules_lines.specs.declared.entry.ByScale.{ByScale}
 use Rattle.rules_lines.specs.declared.entry.Entry.{Entry}
-use Rattle.rules_lines.specs.declared.entry.Entry.TheVariants.{SupplyLine, DeviceLine, StrengthLine, HoldLine}
+use Rattle.rules_lines.specs.declared.entry.Entry.TheVariants.{ScaleLine, SupplyLine, DeviceLine, StrengthLine, HoldLine}
 use Rattle.vrt_model.specs.declared.design.Kind.{Kind}
 
 abbrev pub InRange : ℕ → ℕ → Option ℕ → Type 0
 InRange least greatest None = Unit {0}
 InRange least greatest (Some n) = (least ≤ n) × (n ≤ greatest)
 
+-- a level and a size at both scales
+abbrev pub IsLevelByScale : ByScale → Type 0
+IsLevelByScale level = InRange 4 7 level.eight × InRange 6 14 level.sixteen
+
+abbrev pub IsSizeByScale : ByScale → Type 0
+IsSizeByScale size = InRange 1 3 size.eight × InRange 1 5 size.sixteen
+
 abbrev pub Ranged : Entry → Type 0
-Ranged (DeviceLine model kind level) = InRange 4 7 level
-Ranged (StrengthLine cell device level) = InRange 4 7 level
-Ranged (HoldLine cell net size) = InRange 1 3 size
+Ranged (ScaleLine scale) = (scale ≡ 8) ⊎ (scale ≡ 16)
+Ranged (DeviceLine model kind level) = IsLevelByScale level
+Ranged (StrengthLine cell device level) = IsLevelByScale level
+Ranged (HoldLine cell net size) = IsSizeByScale size
 Ranged entry = Unit {0}
 
 abbrev pub Said : Option Entry → Type 0
@@ -34,19 +43,48 @@ digit_range least greatest b = by_test (nat_le (48 + least) b && nat_le b (48 + 
       let high : b ≤ 48 + greatest = leb-true b (48 + greatest) both.1 in
       (omega (arith, low), omega (arith, high))
 
-level_range : (word : List ℕ) → InRange 4 7 (level_of word)
-level_range [] = tt
-level_range (b ∷ []) = digit_range 4 7 b
-level_range (b ∷ c ∷ bs) = tt
+in_range : (least greatest : ℕ) (word : List ℕ) → InRange least greatest (digit_in least greatest word)
+in_range least greatest [] = tt
+in_range least greatest (b ∷ []) = digit_range least greatest b
+in_range least greatest (b ∷ c ∷ bs) = tt
 
-size_range : (word : List ℕ) → InRange 1 3 (size_of word)
-size_range [] = tt
-size_range (b ∷ []) = digit_range 1 3 b
-size_range (b ∷ c ∷ bs) = tt
+in_wider : (low high least greatest : ℕ) (o : Option ℕ) → least ≤ low → high ≤ greatest → InRange low high o → InRange least greatest o
+in_wider low high least greatest None l h r = tt
+in_wider low high least greatest (Some n) l h r = let from = r.0 in let to = r.1 in (omega (arith, l, from), omega (arith, h, to))
+
+fine_range : (word : List ℕ) → InRange 6 14 (fine_level word)
+fine_range [] = tt
+fine_range (b ∷ []) = in_wider 6 9 6 14 (digit_in 6 9 (b ∷ [])) (omega arith) (omega arith) (in_range 6 9 (b ∷ []))
+fine_range (b ∷ c ∷ d ∷ bs) = tt
+fine_range (b ∷ c ∷ []) = by_test (b == 49) (digit_in 0 4 (c ∷ [])) (in_range 0 4 (c ∷ [])) where
+  by_test : (t : Bool) (o : Option ℕ) → InRange 0 4 o → InRange 6 14 (cond t (option_map (λ n. 10 + n) o) None)
+  by_test false o r = tt
+  by_test true None r = tt
+  by_test true (Some n) r = let to = r.1 in (omega arith, omega (arith, to))
+
+level_range : (word : List ℕ) → IsLevelByScale (level_of word)
+level_range word = (in_range 4 7 word, fine_range word)
+
+usual_level_range : IsLevelByScale usual_level
+usual_level_range = ((omega arith, omega arith), (omega arith, omega arith))
+
+size_range : (word : List ℕ) → IsSizeByScale (size_of word)
+size_range word = (in_range 1 3 word, in_range 1 5 word)
+
+usual_size_range : IsSizeByScale usual_size
+usual_size_range = ((omega arith, omega arith), (omega arith, omega arith))
 
 either : (b : Bool) (x y : Option Entry) → Said x → Said y → Said (cond b x y)
 either true x y p q = p
 either false x y p q = q
+
+says_scale : (words : List (List ℕ)) → Said (scale_entry words)
+says_scale (word ∷ []) = by_tests (bytes_eq word (codes "8")) (bytes_eq word (codes "16")) where
+  by_tests : (a b : Bool) → Said (option_map ScaleLine (cond a (Some 8) (cond b (Some 16) None)))
+  by_tests true b = inl refl
+  by_tests false true = inr refl
+  by_tests false false = tt
+says_scale words = tt
 
 says_nets : (nets : List (List ℕ)) (o : Option Bool) → Said (option_map (λ v. SupplyLine v nets) o)
 says_nets nets None = tt
@@ -56,12 +94,12 @@ says_supply : (words : List (List ℕ)) → Said (supply_entry words)
 says_supply [] = tt
 says_supply (value ∷ nets) = either (is_empty nets) None _ tt (says_nets (map lowered nets) (bit_of value))
 
-says_device_by : (model : List ℕ) (kind : Option Kind) (level : Option ℕ) → InRange 4 7 level → Said (device_by model kind level)
+says_device_by : (model : List ℕ) (kind : Option Kind) (level : ByScale) → IsLevelByScale level → Said (device_by model kind level)
 says_device_by model None level r = tt
 says_device_by model (Some kind) level r = r
 
 says_device : (words : List (List ℕ)) → Said (device_entry words)
-says_device (model ∷ kind ∷ []) = says_device_by model (kind_of kind) (Some 6) (omega arith, omega arith)
+says_device (model ∷ kind ∷ []) = says_device_by model (kind_of kind) usual_level usual_level_range
 says_device (model ∷ kind ∷ level ∷ []) = says_device_by model (kind_of kind) (level_of level) (level_range level)
 says_device words = tt
 
@@ -93,7 +131,7 @@ says_port (cell ∷ port ∷ signal ∷ []) = tt
 says_port words = tt
 
 says_hold : (words : List (List ℕ)) → Said (hold_entry words)
-says_hold (cell ∷ net ∷ []) = (omega arith, omega arith)
+says_hold (cell ∷ net ∷ []) = usual_size_range
 says_hold (cell ∷ net ∷ size ∷ []) = size_range size
 says_hold words = tt
 
@@ -133,14 +171,15 @@ says_clocked word rest =
 
 says_by : (word : List ℕ) (rest : List (List ℕ)) → Said (entry_by word rest)
 says_by word rest =
-    either (bytes_eq word (codes "supply")) _ _ (says_supply rest)
+    either (bytes_eq word (codes "scale")) _ _ (says_scale rest)
+    (either (bytes_eq word (codes "supply")) _ _ (says_supply rest)
     (either (bytes_eq word (codes "device")) _ _ (says_device rest)
     (either (bytes_eq word (codes "strength")) _ _ (says_strength rest)
     (either (bytes_eq word (codes "pair")) _ _ (says_pair rest)
     (either (bytes_eq word (codes "port")) _ _ (says_port rest)
     (either (bytes_eq word (codes "hold")) _ _ (says_hold rest)
     (either (bytes_eq word (codes "keeper")) _ _ (says_keeper rest)
-    (either (bytes_eq word (codes "match")) _ _ (says_match rest) (says_clocked word rest))))))))
+    (either (bytes_eq word (codes "match")) _ _ (says_match rest) (says_clocked word rest)))))))))
 
 -- each line
 pub says_of : (words : List (List ℕ)) → Said (entry_of words)

@@ -4,24 +4,30 @@ use Rattle.std.specs.List.{list_all, list_any}
 use Rattle.text_lines.specs.Bytes.{lowered}
 use Rattle.vrt_model.specs.Lists.{is_empty}
 use Rattle.rules_expression.specs.Tokens.{tokens_of}
-use Rattle.rules_lines.specs.Words.{bit_of, cut_first, kind_of, level_of, signed, size_of}
+use Rattle.rules_lines.specs.Words.{bit_of, cut_first, kind_of, level_of, scale_of, signed, size_of, usual_level, usual_size}
+use Rattle.rules_lines.specs.declared.entry.ByScale.{ByScale}
 use Rattle.rules_lines.specs.declared.entry.ClockBit.{ClockBit}
 use Rattle.rules_lines.specs.declared.entry.Entry.{Entry}
-use Rattle.rules_lines.specs.declared.entry.Entry.TheVariants.{SupplyLine, DeviceLine, StrengthLine, ClockLine, PhaseLine, ClockportLine, DefaultclockLine, PairLine, PortLine, HoldLine, KeeperLine, MatchLine, InstanceMatchLine, EnterLine, ObserveLine, AssumeLine}
+use Rattle.rules_lines.specs.declared.entry.Entry.TheVariants.{ScaleLine, SupplyLine, DeviceLine, StrengthLine, ClockLine, PhaseLine, ClockportLine, DefaultclockLine, PairLine, PortLine, HoldLine, KeeperLine, MatchLine, InstanceMatchLine, EnterLine, ObserveLine, AssumeLine}
 use Rattle.vrt_model.specs.declared.design.Kind.{Kind}
+
+-- `scale 8` or `scale 16`
+abbrev pub scale_entry : List (List ℕ) → Option Entry
+scale_entry (word ∷ []) = option_map ScaleLine (scale_of word)
+scale_entry words = None
 
 -- `supply 0 NET..`, `supply 1 NET..`
 abbrev pub supply_entry : List (List ℕ) → Option Entry
 supply_entry [] = None
 supply_entry (value ∷ nets) = if is_empty nets then None else option_map (λ v. SupplyLine v (map lowered nets)) (bit_of value)
 
--- `device MODEL n` or `p`, `[LEVEL]`; LEVEL is 6 by default
-abbrev pub device_by : List ℕ → Option Kind → Option ℕ → Option Entry
+-- `device MODEL n` or `p`, `[LEVEL]`; by default the usual one
+abbrev pub device_by : List ℕ → Option Kind → ByScale → Option Entry
 device_by model None level = None
 device_by model (Some kind) level = Some (DeviceLine (lowered model) kind level)
 
 abbrev pub device_entry : List (List ℕ) → Option Entry
-device_entry (model ∷ kind ∷ []) = device_by model (kind_of kind) (Some 6)
+device_entry (model ∷ kind ∷ []) = device_by model (kind_of kind) usual_level
 device_entry (model ∷ kind ∷ level ∷ []) = device_by model (kind_of kind) (level_of level)
 device_entry words = None
 
@@ -74,7 +80,7 @@ port_entry words = None
 
 -- `hold CELL NET [SIZE]`; SIZE is 1 by default
 abbrev pub hold_entry : List (List ℕ) → Option Entry
-hold_entry (cell ∷ net ∷ []) = Some (HoldLine (lowered cell) (lowered net) (Some 1))
+hold_entry (cell ∷ net ∷ []) = Some (HoldLine (lowered cell) (lowered net) usual_size)
 hold_entry (cell ∷ net ∷ size ∷ []) = Some (HoldLine (lowered cell) (lowered net) (size_of size))
 hold_entry words = None
 
@@ -126,7 +132,8 @@ clocked_entry word rest =
 
 abbrev pub entry_by : List ℕ → List (List ℕ) → Option Entry
 entry_by word rest =
-    if bytes_eq word (codes "supply") then supply_entry rest
+    if bytes_eq word (codes "scale") then scale_entry rest
+    else (if bytes_eq word (codes "supply") then supply_entry rest
     else (if bytes_eq word (codes "device") then device_entry rest
     else (if bytes_eq word (codes "strength") then strength_entry rest
     else (if bytes_eq word (codes "pair") then pair_entry rest
@@ -134,7 +141,7 @@ entry_by word rest =
     else (if bytes_eq word (codes "hold") then hold_entry rest
     else (if bytes_eq word (codes "keeper") then keeper_entry rest
     else (if bytes_eq word (codes "match") then match_entry rest
-    else clocked_entry word rest)))))))
+    else clocked_entry word rest))))))))
 
 unfoldable pub entry_of : List (List ℕ) → Option Entry
 entry_of [] = None

@@ -1,6 +1,6 @@
 -- Lines with a list of words, and the others.
 use Rattle.std.specs.Prelude.{ℕ, List, Bool, ◌||◌, if◌then◌else◌, codes, bytes_eq, Option, None}
-use Rattle.rules_lines.specs.Lines.{assume_entry, clock_entry, clockport_entry, defaultclock_entry, device_entry, enter_entry, hold_entry, keeper_entry, match_entry, observe_entry, pair_entry, phase_entry, port_entry, strength_entry, supply_entry}
+use Rattle.rules_lines.specs.Lines.{assume_entry, clock_entry, clockport_entry, defaultclock_entry, device_entry, enter_entry, hold_entry, keeper_entry, match_entry, observe_entry, pair_entry, phase_entry, port_entry, scale_entry, strength_entry, supply_entry}
 use Rattle.rules_lines.specs.declared.entry.Entry.{Entry}
 
 -- A line with this first word has a list of words.
@@ -21,7 +21,8 @@ long_entry word rest =
 
 abbrev pub short_entry : List ℕ → List (List ℕ) → Option Entry
 short_entry word rest =
-    if bytes_eq word (codes "device") then device_entry rest
+    if bytes_eq word (codes "scale") then scale_entry rest
+    else (if bytes_eq word (codes "device") then device_entry rest
     else (if bytes_eq word (codes "strength") then strength_entry rest
     else (if bytes_eq word (codes "pair") then pair_entry rest
     else (if bytes_eq word (codes "port") then port_entry rest
@@ -30,4 +31,4 @@ short_entry word rest =
     else (if bytes_eq word (codes "clockport") then clockport_entry rest
     else (if bytes_eq word (codes "defaultclock") then defaultclock_entry rest
     else (if bytes_eq word (codes "enter") then enter_entry rest
-    else None))))))))
+    else None)))))))))

@@ -2,6 +2,7 @@
 use Rattle.std.specs.Prelude.{ℕ, List, [], ◌∷◌, ◌+◌, ◌-◌, Bool, true, false, ◌==◌, ◌&&◌, if◌then◌else◌, nat_le, take, drop, codes, bytes_eq, Option, Some, None, option_map}
 use Rattle.std.specs.List.{position}
 use Rattle.text_lines.specs.Bytes.{starts}
+use Rattle.rules_lines.specs.declared.entry.ByScale.{ByScale}
 use Rattle.rules_lines.specs.declared.entry.Signed.{Signed}
 use Rattle.vrt_model.specs.declared.design.Kind.{Kind}
 use Rattle.vrt_model.specs.declared.design.Kind.TheVariants.{N, P}
@@ -12,12 +13,33 @@ digit_in least greatest (b ∷ []) = if nat_le (48 + least) b && nat_le b (48 + 
 digit_in least greatest [] = None
 digit_in least greatest (b ∷ c ∷ bs) = None
 
--- LEVEL is 4 to 7, SIZE is 1 to 3.
-abbrev pub level_of : List ℕ → Option ℕ
-level_of word = digit_in 4 7 word
+-- 6 to 14 in one or two digits, without a leading zero
+abbrev pub fine_level : List ℕ → Option ℕ
+fine_level (b ∷ c ∷ []) = if b == 49 then option_map (λ n. 10 + n) (digit_in 0 4 (c ∷ [])) else None
+fine_level word = digit_in 6 9 word
 
-abbrev pub size_of : List ℕ → Option ℕ
-size_of word = digit_in 1 3 word
+-- LEVEL is 4 to 7 at scale 8, and 6 to 14 at scale 16.
+abbrev pub level_of : List ℕ → ByScale
+level_of word = record { eight = digit_in 4 7 word; sixteen = fine_level word }
+
+-- the level of a `device` line without LEVEL
+abbrev pub usual_level : ByScale
+usual_level = record { eight = Some 6; sixteen = Some 10 }
+
+-- SIZE is 1 to 3 at scale 8, and 1 to 5 at scale 16.
+abbrev pub size_of : List ℕ → ByScale
+size_of word = record { eight = digit_in 1 3 word; sixteen = digit_in 1 5 word }
+
+-- the size of a `hold` line without SIZE
+abbrev pub usual_size : ByScale
+usual_size = record { eight = Some 1; sixteen = Some 1 }
+
+-- a level or a size at one of the scales
+abbrev pub at_scale : ℕ → ByScale → Option ℕ
+at_scale scale amount = if scale == 16 then amount.sixteen else amount.eight
+
+abbrev pub scale_of : List ℕ → Option ℕ
+scale_of word = if bytes_eq word (codes "8") then Some 8 else (if bytes_eq word (codes "16") then Some 16 else None)
 
 abbrev pub bit_of : List ℕ → Option Bool
 bit_of word = if bytes_eq word (codes "0") then Some false else (if bytes_eq word (codes "1") then Some true else None)

@@ -1,21 +1,36 @@
 //! Lines on nets, devices, cells and models, of a few words.
 
-ghost use Rattle.std.specs.Prelude.{◌≡◌, Some, IfOk};
+ghost use Rattle.std.specs.Prelude.{◌≡◌, None, Some, IfOk};
 ghost use Rattle.text_lines.specs.Bytes.{lowered};
 ghost use Rattle.rules_lines.specs.declared.entry.Entry.TheVariants.{HoldLine, InstanceMatchLine, MatchLine};
 ghost use Rattle.rules_lines.specs.Words.{cut_first, signed};
-ghost use Rattle.rules_lines.specs.Lines.{device_by, device_entry, hold_entry, match_by, match_entry, pair_entry, paired_model, port_entry, strength_entry};
+ghost use Rattle.rules_lines.specs.Lines.{device_by, device_entry, hold_entry, match_by, match_entry, pair_entry, paired_model, port_entry, scale_entry, strength_entry};
 
-use crate::entry::Entry;
-use crate::words::{cut, digit, kind, lower, lower_two, sign_off};
+use crate::entry::{ByScale, Entry};
+use crate::words::{
+    cut, kind, level, lower, lower_two, scale, sign_off, size, usual_level, usual_size,
+};
 use std::alloc::Global;
 use vrt_model::{Kind, NoMemory, Text};
+
+/// `scale 8` or `scale 16`
+pub fn scaling(words: &[Text]) -> Option<Entry>
+    ensures { result ≡ scale_entry words.now }
+{
+    match words {
+        [word] => match scale(word.as_bytes()) {
+            Some(scale) => Some(Entry::ScaleLine { scale }),
+            None => None,
+        },
+        _ => None,
+    }
+}
 
 fn device_of(
     alloc: Global,
     model: &Text,
     kind: Option<Kind>,
-    level: Option<u8>,
+    level: ByScale,
 ) -> Result<Option<Entry>, NoMemory>
     ensures { IfOk result (λ entry. entry ≡ device_by model.now kind level) }
 {
@@ -34,13 +49,10 @@ pub fn device(alloc: Global, words: &[Text]) -> Result<Option<Entry>, NoMemory>
     ensures { IfOk result (λ entry. entry ≡ device_entry words.now) }
 {
     match words {
-        [model, word] => device_of(alloc, model, kind(word.as_bytes()), Some(6)),
-        [model, word, level] => device_of(
-            alloc,
-            model,
-            kind(word.as_bytes()),
-            digit(4, 7, level.as_bytes()),
-        ),
+        [model, word] => device_of(alloc, model, kind(word.as_bytes()), usual_level()),
+        [model, word, last] => {
+            device_of(alloc, model, kind(word.as_bytes()), level(last.as_bytes()))
+        }
         _ => Ok(None),
     }
 }
@@ -50,9 +62,9 @@ pub fn strength(alloc: Global, words: &[Text]) -> Result<Option<Entry>, NoMemory
     ensures { IfOk result (λ entry. entry ≡ strength_entry words.now) }
 {
     match words {
-        [cell, device, level] => {
+        [cell, device, last] => {
             let (cell, device) = lower_two(alloc, cell, device)?;
-            let level = digit(4, 7, level.as_bytes());
+            let level = level(last.as_bytes());
             Ok(Some(Entry::StrengthLine {
                 cell,
                 device,
@@ -102,12 +114,7 @@ pub fn port(alloc: Global, words: &[Text]) -> Result<Option<Entry>, NoMemory>
     }
 }
 
-fn hold_of(
-    alloc: Global,
-    cell: &Text,
-    net: &Text,
-    size: Option<u8>,
-) -> Result<Option<Entry>, NoMemory>
+fn hold_of(alloc: Global, cell: &Text, net: &Text, size: ByScale) -> Result<Option<Entry>, NoMemory>
     ensures { IfOk result (λ entry. entry ≡ Some (HoldLine (lowered cell.now) (lowered net.now) size)) }
 {
     let (cell, net) = lower_two(alloc, cell, net)?;
@@ -119,8 +126,8 @@ pub fn hold(alloc: Global, words: &[Text]) -> Result<Option<Entry>, NoMemory>
     ensures { IfOk result (λ entry. entry ≡ hold_entry words.now) }
 {
     match words {
-        [cell, net] => hold_of(alloc, cell, net, Some(1)),
-        [cell, net, size] => hold_of(alloc, cell, net, digit(1, 3, size.as_bytes())),
+        [cell, net] => hold_of(alloc, cell, net, usual_size()),
+        [cell, net, last] => hold_of(alloc, cell, net, size(last.as_bytes())),
         _ => Ok(None),
     }
 }

@@ -6,7 +6,7 @@ ghost use Rattle.rules_lines.specs.Words.{signed};
 ghost use Rattle.rules_lines.specs.Lines.{clockport_entry, defaultclock_entry, enter_entry};
 ghost use Rattle.rules_lines.specs.Long.{short_entry};
 
-use crate::circuit_lines::{device, hold, matching, pair, port, strength};
+use crate::circuit_lines::{device, hold, matching, pair, port, scaling, strength};
 use crate::entry::{Entry, Signed};
 use crate::words::{bit, lower, lower_two, sign_off};
 use std::alloc::Global;
@@ -70,6 +70,9 @@ fn enter(alloc: Global, words: &[Text]) -> Result<Option<Entry>, NoMemory>
 pub fn read_short(alloc: Global, word: &[u8], rest: &[Text]) -> Result<Option<Entry>, NoMemory>
     ensures { IfOk result (λ entry. entry ≡ short_entry word.now rest.now) }
 {
+    if word == b"scale".as_slice() {
+        return Ok(scaling(rest));
+    }
     if word == b"device".as_slice() {
         return device(alloc, rest);
     }

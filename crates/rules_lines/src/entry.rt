@@ -1,5 +1,8 @@
 //! What a line says.
 
+ghost use Rattle.std.specs.Prelude.{◌≡◌};
+ghost use Rattle.rules_lines.specs.Words.{at_scale};
+
 use rules_expression::Tokens;
 use text_lines::WordList;
 use vrt_model::{Kind, Seq, Text};
@@ -22,6 +25,28 @@ impl Drop for Signed {
     }
 }
 
+/// A level or a size as it reads at each scale, none where it is not a number of that scale's form and range.
+#[derive(Clone, Copy)]
+pub struct ByScale {
+    /// What it is at scale 8.
+    pub eight: Option<u8>,
+    /// What it is at scale 16.
+    pub sixteen: Option<u8>,
+}
+
+impl ByScale {
+    /// What it is at a scale.
+    pub fn at(&self, scale: u8) -> Option<u8>
+        ensures { result ≡ at_scale scale self.now }
+    {
+        if scale == 16 {
+            self.sixteen
+        } else {
+            self.eight
+        }
+    }
+}
+
 /// A clock and its bit, none where the bit is neither 0 nor 1.
 pub struct ClockBit {
     /// The name of the clock.
@@ -40,10 +65,14 @@ impl Drop for ClockBit {
     }
 }
 
-/// What a line says. A level, a size or a bit is none where it is not one digit of its range. The model of a `pair`
-/// line, signals and latches are as written, other names lowered.
+/// What a line says. A bit is none where it is neither 0 nor 1. The model of a `pair` line, signals and latches are as
+/// written, other names lowered.
 #[derive(Drop)]
 pub enum Entry {
+    /// `scale SCALE`
+    ScaleLine {
+        scale: u8,
+    },
     /// `supply VALUE NET..`
     SupplyLine {
         value: bool,
@@ -53,13 +82,13 @@ pub enum Entry {
     DeviceLine {
         model: Text,
         kind: Kind,
-        level: Option<u8>,
+        level: ByScale,
     },
     /// `strength CELL DEVICE LEVEL`
     StrengthLine {
         cell: Text,
         device: Text,
-        level: Option<u8>,
+        level: ByScale,
     },
     /// `clock NAME..`
     ClockLine {
@@ -95,7 +124,7 @@ pub enum Entry {
     HoldLine {
         cell: Text,
         net: Text,
-        size: Option<u8>,
+        size: ByScale,
     },
     /// `keeper CELL DEVICE..`
     KeeperLine {

@@ -7,5 +7,5 @@ mod entry;
 mod long_lines;
 mod words;
 
-pub use entry::{ClockBit, Entry, Signed};
+pub use entry::{ByScale, ClockBit, Entry, Signed};
 pub use long_lines::read_entry;

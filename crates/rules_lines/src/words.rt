@@ -1,10 +1,10 @@
 //! Words of a line: names, digits, bits and signs.
 
-ghost use Rattle.std.specs.Prelude.{◌≡◌, ◌+◌, ◌<◌, ◌==◌, Some, IfOk};
+ghost use Rattle.std.specs.Prelude.{◌≡◌, ◌+◌, ◌<◌, ◌==◌, ◌∷◌, [], Some, option_map, IfOk};
 ghost use Rattle.text_lines.specs.Bytes.{lowered};
-ghost use Rattle.rules_lines.specs.Words.{bit_of, cut_first, digit_in, kind_of, signed};
+ghost use Rattle.rules_lines.specs.Words.{bit_of, cut_first, digit_in, fine_level, kind_of, level_of, scale_of, signed, size_of, usual_level, usual_size};
 
-use crate::entry::Signed;
+use crate::entry::{ByScale, Signed};
 use std::alloc::Global;
 use text_lines::first_place;
 use vrt_model::{Kind, NoMemory, Text};
@@ -32,7 +32,7 @@ pub fn lower_two(alloc: Global, first: &Text, second: &Text) -> Result<(Text, Te
 }
 
 /// A digit of a range, none for any other word.
-pub fn digit(least: u8, greatest: u8, word: &[u8]) -> Option<u8>
+fn digit(least: u8, greatest: u8, word: &[u8]) -> Option<u8>
     requires least { 48 + least < 256 }
     requires greatest { 48 + greatest < 256 }
     ensures { result ≡ digit_in least greatest word.now }
@@ -47,6 +47,80 @@ pub fn digit(least: u8, greatest: u8, word: &[u8]) -> Option<u8>
         }
         _ => None,
     }
+}
+
+/// Ten and a digit from 0 to 4.
+fn ten_and(last: u8) -> Option<u8>
+    ensures { result ≡ option_map (λ n. 10 + n) (digit_in 0 4 (last ∷ [])) }
+{
+    if b'0' <= last && last <= b'4' {
+        Some(10 + (last - b'0'))
+    } else {
+        None
+    }
+}
+
+/// A level of scale 16.
+fn fine(word: &[u8]) -> Option<u8>
+    ensures { result ≡ fine_level word.now }
+{
+    match word {
+        [first, last] => { if *first == b'1' { ten_and(*last) } else { None } }
+        _ => digit(6, 9, word),
+    }
+}
+
+/// LEVEL, at each scale.
+pub fn level(word: &[u8]) -> ByScale
+    ensures { result ≡ level_of word.now }
+{
+    ByScale {
+        eight: digit(4, 7, word),
+        sixteen: fine(word),
+    }
+}
+
+/// The level of a `device` line without LEVEL.
+pub fn usual_level() -> ByScale
+    ensures { result ≡ usual_level }
+{
+    ByScale {
+        eight: Some(6),
+        sixteen: Some(10),
+    }
+}
+
+/// SIZE, at each scale.
+pub fn size(word: &[u8]) -> ByScale
+    ensures { result ≡ size_of word.now }
+{
+    ByScale {
+        eight: digit(1, 3, word),
+        sixteen: digit(1, 5, word),
+    }
+}
+
+/// The size of a `hold` line without SIZE.
+pub fn usual_size() -> ByScale
+    ensures { result ≡ usual_size }
+{
+    ByScale {
+        eight: Some(1),
+        sixteen: Some(1),
+    }
+}
+
+/// `8` or `16`.
+pub fn scale(word: &[u8]) -> Option<u8>
+    ensures { result ≡ scale_of word.now }
+{
+    if word == b"8".as_slice() {
+        return Some(8);
+    }
+    if word == b"16".as_slice() {
+        return Some(16);
+    }
+    None
 }
 
 /// `0` or `1`.

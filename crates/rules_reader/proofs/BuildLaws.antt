@@ -21,20 +21,26 @@ row f i cards card old new lt here so_far e =
     ∙ sym (flat_map-append (on_card f) (take i cards) (card ∷ []))
     ∙ ap (table f) (ap (λ c. take i cards ++ c ∷ []) (sym (get_or_from_slice_get cards i card card here)) ∙ sym (take_more cards i card lt))
 
-pub turn : (clocks phases names : List (List ℕ)) (i : ℕ) (cards : List Card) (card : Card) (old new : Rules) → i < length cards → slice_get cards i ≡ Some card
-    → AreSoFar clocks phases names (take i cards) old → Adds clocks phases card.line card.entry old new → AreSoFar clocks phases names (take (i + 1) cards) new
-turn clocks phases names i cards card old new lt here r a = record {
+-- a table at the scale of the rules with a line more
+row_at : {X : Type 0} (f : ℕ → ℕ → Entry → List X) (scale next : ℕ) (i : ℕ) (cards : List Card) (card : Card) (old new : List X) → next ≡ scale → i < length cards
+    → slice_get cards i ≡ Some card → old ≡ table (f scale) (take i cards) → new ≡ old ++ on_card (f scale) card → new ≡ table (f next) (take (i + 1) cards)
+row_at f scale next i cards card old new same lt here so_far e = subst (λ s. new ≡ table (f s) (take (i + 1) cards)) (sym same) (row (f scale) i cards card old new lt here so_far e)
+
+pub turn : (clocks phases names : List (List ℕ)) (scale i : ℕ) (cards : List Card) (card : Card) (old new : Rules) → i < length cards → slice_get cards i ≡ Some card
+    → AreSoFar clocks phases names scale (take i cards) old → Adds clocks phases card.line card.entry old new → AreSoFar clocks phases names scale (take (i + 1) cards) new
+turn clocks phases names scale i cards card old new lt here r a = record {
+  scale_is = a.scale_is ∙ r.scale_is;
   clocks_are = a.clocks_are ∙ r.clocks_are;
   phases_are = row (phases_in clocks) i cards card _ _ lt here r.phases_are a.phases_are;
   tables = record {
     supplies = row supplies_in i cards card _ _ lt here r.tables.supplies a.supplies;
-    devices = row devices_in i cards card _ _ lt here r.tables.devices a.devices;
-    strengths = row strengths_in i cards card _ _ lt here r.tables.strengths a.strengths;
+    devices = row_at devices_in old.scale new.scale i cards card _ _ a.scale_is lt here r.tables.devices a.devices;
+    strengths = row_at strengths_in old.scale new.scale i cards card _ _ a.scale_is lt here r.tables.strengths a.strengths;
     clockports = row (clockports_in clocks) i cards card _ _ lt here r.tables.clockports a.clockports;
     defaultclocks = row (defaultclocks_in clocks) i cards card _ _ lt here r.tables.defaultclocks a.defaultclocks;
     pairs = row pairs_in i cards card _ _ lt here r.tables.pairs a.pairs;
     ports = row ports_in i cards card _ _ lt here r.tables.ports a.ports;
-    holds = row holds_in i cards card _ _ lt here r.tables.holds a.holds;
+    holds = row_at holds_in old.scale new.scale i cards card _ _ a.scale_is lt here r.tables.holds a.holds;
     keepers = row keepers_in i cards card _ _ lt here r.tables.keepers a.keepers;
     matches = row matches_in i cards card _ _ lt here r.tables.matches a.matches;
     instance_matches = row instance_matches_in i cards card _ _ lt here r.tables.instance_matches a.instance_matches;
@@ -44,9 +50,9 @@ turn clocks phases names i cards card old new lt here r a = record {
   };
 }
 
-pub at_end : (clocks phases names : List (List ℕ)) (i : ℕ) (cards : List Card) (rules : Rules) → length cards ≤ i → AreSoFar clocks phases names (take i cards) rules
-    → AreSoFar clocks phases names cards rules
-at_end clocks phases names i cards rules past r = subst (λ cs. AreSoFar clocks phases names cs rules) (take_all i cards past) r
+pub at_end : (clocks phases names : List (List ℕ)) (scale i : ℕ) (cards : List Card) (rules : Rules) → length cards ≤ i → AreSoFar clocks phases names scale (take i cards) rules
+    → AreSoFar clocks phases names scale cards rules
+at_end clocks phases names scale i cards rules past r = subst (λ cs. AreSoFar clocks phases names scale cs rules) (take_all i cards past) r
 
 -- other phases leave the other tables as they are
 abbrev pub with_phases : Rules → List Phase → Rules
@@ -67,14 +73,16 @@ with_phases r phases = record {
   enters = r.enters;
   observes = r.observes;
   assumes = r.assumes;
+  scale = r.scale;
 }
 
-pub whole : (cards : List Card) (known : Known) (rules : Rules) (phases : List Phase) → known ≡ known_by cards → AreSoFar known.clocks known.phases known.clocks cards rules
+pub whole : (cards : List Card) (known : Known) (rules : Rules) (phases : List Phase) → known ≡ known_by cards → AreSoFar known.clocks known.phases known.clocks known.scale cards rules
     → phases ≡ all_from known.clocks rules.phases → AreRulesOf cards (with_phases rules phases)
 unfolding known_by
 whole cards known rules phases is r e =
-    let told = subst (λ (k : Known). AreSoFar k.clocks k.phases k.clocks cards rules) is r in
+    let told = subst (λ (k : Known). AreSoFar k.clocks k.phases k.clocks k.scale cards rules) is r in
     record {
+      scale_is = told.scale_is;
       clocks_are = told.clocks_are;
       phases_are = e ∙ ap (λ (k : Known). all_from k.clocks rules.phases) is ∙ ap (all_from (clocks_of cards)) told.phases_are;
       tables = record {

@@ -7,7 +7,7 @@ use Rattle.rules_reader.specs.Learned.{Reads, learned}
 use Rattle.rules_reader.specs.Entries.{cards_left, cards_of}
 use Rattle.rules_reader.proofs.CardLaws.{all_left}
 use Rattle.rules_reader.specs.Refused.{fault_by, fault_of, known_by, rules_fault}
-use Rattle.rules_reader.specs.Tables.{clocks_of, phase_names_of}
+use Rattle.rules_reader.specs.Tables.{clocks_of, phase_names_of, scale_by}
 use Rattle.rules_reader.proofs.KnownLaws.{known_more, same_known}
 use Rattle.rules_reader.specs.declared.cards.Card.{Card}
 use Rattle.rules_reader.specs.declared.known.Known.{Known}
@@ -46,9 +46,9 @@ fault_of_text text f h = let P : List Card → Type 0 = λ cards. (f ≡ NoMemor
 
 -- nothing is known at first
 pub starts : (clocks phases keys : List (List ℕ)) → clocks ≡ [] → phases ≡ [] → keys ≡ []
-    → (let k : Known = record { clocks = clocks; phases = phases; keys = keys; is_phase_named = false } in k) ≡ known_by []
-unfolding known_by clocks_of phase_names_of
-starts clocks phases keys c p k = same_known c p k refl
+    → (let k : Known = record { clocks = clocks; phases = phases; keys = keys; is_phase_named = false; scale = 8; has_levels = false } in k) ≡ known_by []
+unfolding known_by clocks_of phase_names_of scale_by
+starts clocks phases keys c p k = same_known c p k refl refl refl
 
 -- the fault that is computed is the first one
 pub fault_is : (cards : List Card) (f : RulesFault) → rules_fault cards ≡ Some f → IsFirst fault_of cards f

@@ -8,7 +8,7 @@ use Rattle.rules_expression.specs.Tokens.{tokens_of}
 use Rattle.rules_lines.specs.Lines.{entry_of}
 use Rattle.rules_reader.specs.Entries.{cards_of}
 use Rattle.rules_reader.specs.Refused.{entry_fault, known_by, rules_fault}
-use Rattle.rules_reader.specs.Tables.{all_from, assumes_in, clocks_of, devices_in, enters_in, phase_names_of, phases_in, supplies_in, table}
+use Rattle.rules_reader.specs.Tables.{all_from, assumes_in, clocks_of, devices_in, enters_in, holds_in, phase_names_of, phases_in, scale_by, strengths_in, supplies_in, table}
 use Rattle.rules_reader.specs.declared.cards.Card.{Card}
 use Rattle.rules_reader.specs.declared.faults.RulesFault.{RulesFault}
 use Rattle.rules_reader.specs.declared.faults.RulesFault.TheVariants.{Word, Number, Expr, Twice, UnknownPhase, UnknownClock}
@@ -31,7 +31,7 @@ dom_lines =
     ∷ codes "hold dom d" ∷ codes "strength dom m7 4" ∷ codes "enter dom eval d 1" ∷ codes "assume dom pre !A & b" ∷ codes "assume dom * a" ∷ []
 
 dom_good : fault_in dom_lines ≡ None
-unfolding cards_of words_of text_lines is_text entry_of tokens_of formula_of known_by clocks_of phase_names_of entry_fault
+unfolding cards_of words_of text_lines is_text entry_of tokens_of formula_of known_by clocks_of phase_names_of scale_by entry_fault
 dom_good = refl
 
 dom_supplies : table supplies_in (cards dom_lines)
@@ -39,9 +39,9 @@ dom_supplies : table supplies_in (cards dom_lines)
 unfolding cards_of words_of text_lines is_text entry_of tokens_of
 dom_supplies = refl
 
-dom_devices : table devices_in (cards dom_lines)
+dom_devices : table (devices_in (scale_by (cards dom_lines))) (cards dom_lines)
     ≡ record { line = 3; model = codes "n"; kind = N; level = 6 } ∷ record { line = 4; model = codes "p"; kind = P; level = 7 } ∷ []
-unfolding cards_of words_of text_lines is_text entry_of tokens_of
+unfolding cards_of words_of text_lines is_text entry_of tokens_of scale_by
 dom_devices = refl
 
 dom_phases : table (phases_in (clocks_of (cards dom_lines))) (cards dom_lines)
@@ -58,6 +58,51 @@ dom_assumes : table (assumes_in (phase_names_of (cards dom_lines))) (cards dom_l
     ∷ record { line = 14; cell = codes "dom"; phase = None; formula = a_port (codes "a") } ∷ []
 unfolding cards_of words_of text_lines is_text entry_of tokens_of formula_of phase_names_of
 dom_assumes = refl
+
+-- levels and sizes at scale 16
+abbrev fine_lines : List (List ℕ)
+fine_lines = codes "scale 16" ∷ codes "device n n" ∷ codes "device p p 14" ∷ codes "strength k m 6" ∷ codes "hold k a" ∷ codes "hold k b 5" ∷ []
+
+fine_good : fault_in fine_lines ≡ None
+unfolding cards_of words_of text_lines is_text entry_of tokens_of formula_of known_by clocks_of phase_names_of scale_by entry_fault
+fine_good = refl
+
+fine_devices : table (devices_in (scale_by (cards fine_lines))) (cards fine_lines)
+    ≡ record { line = 2; model = codes "n"; kind = N; level = 10 } ∷ record { line = 3; model = codes "p"; kind = P; level = 14 } ∷ []
+unfolding cards_of words_of text_lines is_text entry_of tokens_of scale_by
+fine_devices = refl
+
+fine_strengths : table (strengths_in (scale_by (cards fine_lines))) (cards fine_lines) ≡ record { line = 4; cell = codes "k"; device = codes "m"; level = 6 } ∷ []
+unfolding cards_of words_of text_lines is_text entry_of tokens_of scale_by
+fine_strengths = refl
+
+fine_holds : table (holds_in (scale_by (cards fine_lines))) (cards fine_lines)
+    ≡ record { line = 5; cell = codes "k"; net = codes "a"; size = 1 } ∷ record { line = 6; cell = codes "k"; net = codes "b"; size = 5 } ∷ []
+unfolding cards_of words_of text_lines is_text entry_of tokens_of scale_by
+fine_holds = refl
+
+-- numbers of the other scale, of another form, and the line that says the scale
+scale_faults : map fault_in (
+    (codes "scale 16" ∷ codes "hold k p 6" ∷ [])
+    ∷ (codes "scale 16" ∷ codes "hold k p 05" ∷ [])
+    ∷ (codes "scale 16" ∷ codes "device x n 06" ∷ [])
+    ∷ (codes "scale 16" ∷ codes "device x n 5" ∷ [])
+    ∷ (codes "scale 16" ∷ codes "device x n 15" ∷ [])
+    ∷ (codes "scale 8" ∷ codes "strength k m 8" ∷ [])
+    ∷ (codes "hold k p 4" ∷ [])
+    ∷ (codes "scale 9" ∷ [])
+    ∷ (codes "scale" ∷ [])
+    ∷ (codes "scale 16 16" ∷ [])
+    ∷ (codes "scale 016" ∷ [])
+    ∷ (codes "SCALE 16" ∷ [])
+    ∷ (codes "scale 16" ∷ codes "scale 9" ∷ [])
+    ∷ (codes "scale 16" ∷ codes "device n n" ∷ codes "scale 16" ∷ [])
+    ∷ (codes "hold k p" ∷ codes "scale 16" ∷ [])
+    ∷ (codes "supply 1 v" ∷ codes "scale 16" ∷ codes "scale 8" ∷ []) ∷ [])
+    ≡ Some (Number 2) ∷ Some (Number 2) ∷ Some (Number 2) ∷ Some (Number 2) ∷ Some (Number 2) ∷ Some (Number 2) ∷ Some (Number 1) ∷ Some (Word 1) ∷ Some (Word 1) ∷ Some (Word 1) ∷ Some (Word 1)
+    ∷ Some (Word 1) ∷ Some (Word 2) ∷ Some (Word 3) ∷ Some (Word 2) ∷ Some (Twice 3 (codes "scale")) ∷ []
+unfolding cards_of words_of text_lines is_text entry_of tokens_of formula_of known_by clocks_of phase_names_of scale_by entry_fault
+scale_faults = refl
 
 -- without a phase line there is the phase `all`
 no_phase : all_from (clocks_of (cards (codes "clock a b" ∷ []))) (table (phases_in (clocks_of (cards (codes "clock a b" ∷ [])))) (cards (codes "clock a b" ∷ [])))
@@ -85,5 +130,5 @@ faults : map fault_in (
     ≡ Some (UnknownClock 1 (codes "c")) ∷ Some (Word 3) ∷ Some (Word 2) ∷ Some (Word 2) ∷ Some (Number 1) ∷ Some (Number 2) ∷ Some (Twice 2 (codes "p")) ∷ Some (UnknownPhase 1 (codes "mid"))
     ∷ Some (Expr 1) ∷ Some (Word 1) ∷ Some (Twice 3 (codes "defaultclock")) ∷ Some (UnknownClock 1 []) ∷ Some (Twice 2 (codes "q")) ∷ Some (Twice 2 (codes "c")) ∷ Some (Word 1)
     ∷ Some (Twice 2 (codes "y")) ∷ []
-unfolding cards_of words_of text_lines is_text entry_of tokens_of formula_of known_by clocks_of phase_names_of entry_fault
+unfolding cards_of words_of text_lines is_text entry_of tokens_of formula_of known_by clocks_of phase_names_of scale_by entry_fault
 faults = refl

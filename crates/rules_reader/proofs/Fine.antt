@@ -20,7 +20,7 @@ use Rattle.names.proofs.NewLaws.{AreNew, new_append, new_apart}
 -- no condition of a fault holds
 pub record Fine (count : ℕ) (known : Known) (entry : Entry) : Type 0 where
   pub placed : is_misplaced known entry ≡ false
-  pub numbers : has_bad_number entry ≡ false
+  pub numbers : has_bad_number known.scale entry ≡ false
   pub expression : has_bad_expression entry ≡ false
   pub keys : repeated known.keys (keys_of entry) ≡ None
   pub phases : first_missing (known_from known.phases) (phases_named entry) ≡ None
@@ -33,7 +33,7 @@ fine_by count known line entry e =
     let none = none_at (entry_faults count known line entry) e in
     record {
       placed = when_no (is_misplaced known entry) (Word line) (none 0);
-      numbers = when_no (has_bad_number entry) (Number line) (none 1);
+      numbers = when_no (has_bad_number known.scale entry) (Number line) (none 1);
       expression = when_no (has_bad_expression entry) (Expr line) (none 2);
       keys = map_none (Twice line) (repeated known.keys (keys_of entry)) (none 3);
       phases = map_none (UnknownPhase line) (first_missing (known_from known.phases) (phases_named entry)) (none 4);

@@ -1,5 +1,5 @@
 -- Lines without a fault are rules as later calls ask for them.
-use Rattle.std.proofs.Common.{◌≡◌, ◌++◌, ◌∷◌, ◌≤◌, ◌<◌, ◌==◌, ◌&&◌, ◌||◌, [], ℕ, List, Bool, true, false, length, map, Option, Some, None, is_none, option_map, unwrap_or, codes, refl, ap, ap₂, sym, subst, ◌∙◌, arith}
+use Rattle.std.proofs.Common.{◌≡◌, ◌++◌, ◌∷◌, ◌≤◌, ◌<◌, ◌+◌, ◌==◌, ◌&&◌, ◌||◌, ◌⊎◌, [], ℕ, List, Bool, true, false, cond, length, map, Option, Some, None, is_none, option_map, unwrap_or, codes, refl, ap, ap₂, sym, subst, ◌∙◌, arith, inl}
 use Rattle.std.specs.Prelude.{All, bytes_eq}
 use Rattle.std.proofs.lemmas.Bool.{and_parts, eqb-true, or_from, or_parts}
 use Rattle.std.proofs.lemmas.List.{length-map}
@@ -15,20 +15,22 @@ use Rattle.rules_expression.specs.Grammar.{seen}
 use Rattle.rules_expression.specs.Grammar.Formula.{a_port}
 use Rattle.rules_expression.specs.Readings.{formula_of}
 use Rattle.rules_reader.specs.Refused.{fault_of, key_texts, known_from}
-use Rattle.rules_reader.specs.Tables.{AreRulesOf, Assumed, all_from, assumed, assumes_in, bit_for, by_entry, clock_ref, clockports_in, clocks_in, clocks_of, defaultclocks_in, devices_in, enters_in, holds_in, instance_matches_in, keepers_in, matches_in, number_in, observes_in, on_card, pairs_in, phase_names_in, phase_names_of, phases_in, ports_in, strengths_in, supplies_in, table, told}
+use Rattle.rules_reader.specs.Tables.{AreRulesOf, Assumed, all_from, assumed, assumes_in, bit_for, by_entry, clock_ref, clockports_in, clocks_in, clocks_of, defaultclocks_in, devices_in, enters_in, holds_in, instance_matches_in, keepers_in, matches_in, number_in, observes_in, on_card, pairs_in, phase_names_in, phase_names_of, phases_in, ports_in, scale_by, scale_from, scales_in, strengths_in, supplies_in, table, told}
 use Rattle.rules_reader.specs.declared.cards.Card.{Card}
 use Rattle.rules_lines.specs.declared.entry.Entry.{Entry}
-use Rattle.rules_lines.specs.declared.entry.Entry.TheVariants.{DeviceLine, StrengthLine, PhaseLine, ClockportLine, DefaultclockLine, HoldLine, EnterLine, ObserveLine, AssumeLine}
+use Rattle.rules_lines.specs.declared.entry.Entry.TheVariants.{ScaleLine, DeviceLine, StrengthLine, PhaseLine, ClockportLine, DefaultclockLine, HoldLine, EnterLine, ObserveLine, AssumeLine}
 use Rattle.rules_reader.proofs.Fine.{AllSay, keys_apart}
 use Rattle.rules_reader.proofs.Keyed.{NamesBack, clockport_key, clockports_keyed, defaultclock_key, defaultclocks_keyed, device_key, devices_keyed, enter_key, enters_keyed, hold_key, holds_keyed, in_cell, in_table, instance_match_key, instance_matches_keyed, keeper_key, keepers_keyed, match_key, matches_keyed, observe_key, observes_keyed, pair_key, pairs_keyed, phase_key, phases_keyed, port_key, ports_keyed, strength_key, strengths_keyed, supplies_keyed, supply_key, within_cell}
 use Rattle.rules_expression.proofs.Operators.{few_of, few_seen, operators_of}
-use Rattle.rules_lines.proofs.Ranged.{InRange, Ranged}
+use Rattle.rules_lines.proofs.Ranged.{InRange, IsLevelByScale, IsSizeByScale, Ranged}
+use Rattle.rules_lines.specs.Words.{at_scale}
+use Rattle.rules_lines.specs.declared.entry.ByScale.{ByScale}
 use Rattle.rules_reader.proofs.Ranged.{ranged}
 use Rattle.rules_reader.proofs.Settled.{Settled, clocks_are_few, phases_are_few, settled}
 use Rattle.rules_reader.proofs.Tabled.{both_say, known_one, map_join, name_back, number_small, number_within, table_all, table_within}
 use Rattle.rules_reader.proofs.Within.{apart_by_key, no_repeat_within, two_same}
 use Rattle.vrt_model.specs.Expressions.{operators_in}
-use Rattle.vrt_model.specs.Inputs.{AllApart, AreRules, IsLevel, IsPhaseOf}
+use Rattle.vrt_model.specs.Inputs.{AllApart, AreRules, IsPhaseOf}
 use Rattle.vrt_model.specs.declared.rules.AssumeRule.{AssumeRule}
 use Rattle.vrt_model.specs.declared.rules.ClockportRule.{ClockportRule}
 use Rattle.vrt_model.specs.declared.rules.DefaultclockRule.{DefaultclockRule}
@@ -49,28 +51,67 @@ use Rattle.vrt_model.specs.declared.rules.StrengthRule.{StrengthRule}
 -- ---- lines
 
 -- what each line without a fault says
-abbrev Good : List (List ℕ) → List (List ℕ) → Entry → Type 0
-Good clocks phases e = Settled clocks phases e × Ranged e
+abbrev Good : ℕ → List (List ℕ) → List (List ℕ) → Entry → Type 0
+Good scale clocks phases e = Settled scale clocks phases e × Ranged e
 
-level_good : (level : Option ℕ) → is_none level ≡ false → InRange 4 7 level → IsLevel (unwrap_or level 0)
-level_good None good range = cc
-level_good (Some n) good range = range
+-- a number that is there, above the greatest of its range by one at most
+there : (least greatest above : ℕ) (o : Option ℕ) → above ≡ greatest + 1 → is_none o ≡ false → InRange least greatest o → (least ≤ unwrap_or o 0) × (unwrap_or o 0 < above)
+there least greatest above None is good range = cc
+there least greatest above (Some n) is good range = let from = range.0 in let to = range.1 in (from, omega (arith, is, to))
 
-size_good : (size : Option ℕ) → is_none size ≡ false → InRange 1 3 size → (1 ≤ unwrap_or size 0) × (unwrap_or size 0 ≤ 3)
-size_good None good range = cc
-size_good (Some n) good range = range
+-- a level of devices at a scale
+abbrev IsLevelAt : ℕ → ℕ → Type 0
+IsLevelAt scale level = (cond (scale == 16) 6 4 ≤ level) × (level < cond (scale == 16) 15 8)
+
+level_good : (scale : ℕ) (level : ByScale) → is_none (at_scale scale level) ≡ false → IsLevelByScale level → IsLevelAt scale (unwrap_or (at_scale scale level) 0)
+level_good scale level good range = by_test (scale == 16) good where
+  by_test : (b : Bool) → is_none (cond b level.sixteen level.eight) ≡ false
+      → (cond b 6 4 ≤ unwrap_or (cond b level.sixteen level.eight) 0) × (unwrap_or (cond b level.sixteen level.eight) 0 < cond b 15 8)
+  by_test true good = there 6 14 15 level.sixteen (omega arith) good range.1
+  by_test false good = there 4 7 8 level.eight (omega arith) good range.0
+
+-- a size of holds at a scale
+abbrev IsSizeAt : ℕ → ℕ → Type 0
+IsSizeAt scale size = (1 ≤ size) × (size < cond (scale == 16) 6 4)
+
+size_good : (scale : ℕ) (size : ByScale) → is_none (at_scale scale size) ≡ false → IsSizeByScale size → IsSizeAt scale (unwrap_or (at_scale scale size) 0)
+size_good scale size good range = by_test (scale == 16) good where
+  by_test : (b : Bool) → is_none (cond b size.sixteen size.eight) ≡ false
+      → (1 ≤ unwrap_or (cond b size.sixteen size.eight) 0) × (unwrap_or (cond b size.sixteen size.eight) 0 < cond b 6 4)
+  by_test true good = there 1 5 6 size.sixteen (omega arith) good range.1
+  by_test false good = there 1 3 4 size.eight (omega arith) good range.0
+
+-- the scale is one of the two
+abbrev IsScale : ℕ → Type 0
+IsScale scale = (scale ≡ 8) ⊎ (scale ≡ 16)
+
+one_scale : (cards : List Card) (scale : ℕ) → IsScale scale → AllSay Ranged cards → IsScale (scale_from scale (told scales_in cards))
+one_scale [] scale is all = is
+one_scale (card ∷ cards) scale is all = by_said card.entry all.0 (λ s e. one_scale cards s e all.1) where
+  by_line : (e : Entry) → Ranged e → ((s : ℕ) → IsScale s → IsScale (scale_from s (told scales_in cards))) → IsScale (scale_from scale (scales_in e ++ told scales_in cards))
+  by_line (ScaleLine s) one rest = rest s one
+  by_line e one rest = rest scale is
+
+  by_said : (o : Option Entry) → ((e : Entry) → o ≡ Some e → Ranged e) → ((s : ℕ) → IsScale s → IsScale (scale_from s (told scales_in cards)))
+      → IsScale (scale_from scale (by_entry (λ line. scales_in) card.line o ++ told scales_in cards))
+  by_said None h rest = rest scale is
+  by_said (Some e) h rest = by_line e (h e refl) rest
+
+is_scale : (cards : List Card) → AllSay Ranged cards → IsScale (scale_by cards)
+unfolding scale_by
+is_scale cards all = one_scale cards 8 (inl refl) all
 
 single : {X : Type 0} (Q : X → Type 0) (x : X) → Q x → All Q (x ∷ [])
 single Q x q = All-cons Q x [] q (All-nil Q)
 
-abbrev HasLevel : DeviceRule → Type 0
-HasLevel d = IsLevel d.level
+abbrev HasLevel : ℕ → DeviceRule → Type 0
+HasLevel scale d = IsLevelAt scale d.level
 
-abbrev HasStrength : StrengthRule → Type 0
-HasStrength s = IsLevel s.level
+abbrev HasStrength : ℕ → StrengthRule → Type 0
+HasStrength scale s = IsLevelAt scale s.level
 
-abbrev HasSize : HoldRule → Type 0
-HasSize h = (1 ≤ h.size) × (h.size ≤ 3)
+abbrev HasSize : ℕ → HoldRule → Type 0
+HasSize scale h = IsSizeAt scale h.size
 
 abbrev HasClock : List (List ℕ) → ClockportRule → Type 0
 HasClock clocks c = c.clock.clock < length clocks
@@ -97,78 +138,81 @@ InPhase m r = IsBelow m r.phase
 abbrev HasFew : Assumed → Type 0
 HasFew r = operators_of r.formula ≤ 1000
 
-devices_level : (clocks phases : List (List ℕ)) (line : ℕ) (e : Entry) → Good clocks phases e → All HasLevel (devices_in line e)
-devices_level clocks phases line (DeviceLine model kind level) g =
-    let r : DeviceRule = record { line = line; model = model; kind = kind; level = unwrap_or level 0 } in single HasLevel r (level_good level g.0.numbers g.1)
-devices_level clocks phases line e g = All-nil HasLevel
+devices_level : (scale : ℕ) (clocks phases : List (List ℕ)) (line : ℕ) (e : Entry) → Good scale clocks phases e → All (HasLevel scale) (devices_in scale line e)
+devices_level scale clocks phases line (DeviceLine model kind level) g =
+    let r : DeviceRule = record { line = line; model = model; kind = kind; level = unwrap_or (at_scale scale level) 0 } in
+    single (HasLevel scale) r (level_good scale level g.0.numbers g.1)
+devices_level scale clocks phases line e g = All-nil (HasLevel scale)
 
-strengths_level : (clocks phases : List (List ℕ)) (line : ℕ) (e : Entry) → Good clocks phases e → All HasStrength (strengths_in line e)
-strengths_level clocks phases line (StrengthLine cell device level) g =
-    let r : StrengthRule = record { line = line; cell = cell; device = device; level = unwrap_or level 0 } in single HasStrength r (level_good level g.0.numbers g.1)
-strengths_level clocks phases line e g = All-nil HasStrength
+strengths_level : (scale : ℕ) (clocks phases : List (List ℕ)) (line : ℕ) (e : Entry) → Good scale clocks phases e → All (HasStrength scale) (strengths_in scale line e)
+strengths_level scale clocks phases line (StrengthLine cell device level) g =
+    let r : StrengthRule = record { line = line; cell = cell; device = device; level = unwrap_or (at_scale scale level) 0 } in
+    single (HasStrength scale) r (level_good scale level g.0.numbers g.1)
+strengths_level scale clocks phases line e g = All-nil (HasStrength scale)
 
-holds_size : (clocks phases : List (List ℕ)) (line : ℕ) (e : Entry) → Good clocks phases e → All HasSize (holds_in line e)
-holds_size clocks phases line (HoldLine cell net size) g =
-    let r : HoldRule = record { line = line; cell = cell; net = net; size = unwrap_or size 0 } in single HasSize r (size_good size g.0.numbers g.1)
-holds_size clocks phases line e g = All-nil HasSize
+holds_size : (scale : ℕ) (clocks phases : List (List ℕ)) (line : ℕ) (e : Entry) → Good scale clocks phases e → All (HasSize scale) (holds_in scale line e)
+holds_size scale clocks phases line (HoldLine cell net size) g =
+    let r : HoldRule = record { line = line; cell = cell; net = net; size = unwrap_or (at_scale scale size) 0 } in
+    single (HasSize scale) r (size_good scale size g.0.numbers g.1)
+holds_size scale clocks phases line e g = All-nil (HasSize scale)
 
-clockports_known : (clocks phases : List (List ℕ)) (line : ℕ) (e : Entry) → Good clocks phases e → All (HasClock clocks) (clockports_in clocks line e)
-clockports_known clocks phases line (ClockportLine cell port clock) g =
+clockports_known : (scale : ℕ) (clocks phases : List (List ℕ)) (line : ℕ) (e : Entry) → Good scale clocks phases e → All (HasClock clocks) (clockports_in clocks line e)
+clockports_known scale clocks phases line (ClockportLine cell port clock) g =
     let r : ClockportRule = record { line = line; cell = cell; port = port; clock = clock_ref clocks clock } in
     single (HasClock clocks) r (number_within clocks clock.name (known_one clocks clock.name g.0.clocks_are))
-clockports_known clocks phases line e g = All-nil (HasClock clocks)
+clockports_known scale clocks phases line e g = All-nil (HasClock clocks)
 
-defaultclocks_known : (clocks phases : List (List ℕ)) (line : ℕ) (e : Entry) → Good clocks phases e → All (HasDefault clocks) (defaultclocks_in clocks line e)
-defaultclocks_known clocks phases line (DefaultclockLine clock) g =
+defaultclocks_known : (scale : ℕ) (clocks phases : List (List ℕ)) (line : ℕ) (e : Entry) → Good scale clocks phases e → All (HasDefault clocks) (defaultclocks_in clocks line e)
+defaultclocks_known scale clocks phases line (DefaultclockLine clock) g =
     let r : DefaultclockRule = record { line = line; clock = number_in clocks clock } in single (HasDefault clocks) r (number_within clocks clock (known_one clocks clock g.0.clocks_are))
-defaultclocks_known clocks phases line e g = All-nil (HasDefault clocks)
+defaultclocks_known scale clocks phases line e g = All-nil (HasDefault clocks)
 
 -- phases have numbers below a count that is not 0 and not below theirs
 abbrev Enough : List (List ℕ) → ℕ → Type 0
 Enough phases m = (0 < m) × (length phases ≤ m)
 
-enters_known : (clocks phases : List (List ℕ)) (m : ℕ) → Enough phases m → (line : ℕ) (e : Entry) → Good clocks phases e → All (HasPhase m) (enters_in phases line e)
-enters_known clocks phases m enough line (EnterLine cell phase net bit) g =
+enters_known : (scale : ℕ) (clocks phases : List (List ℕ)) (m : ℕ) → Enough phases m → (line : ℕ) (e : Entry) → Good scale clocks phases e → All (HasPhase m) (enters_in phases line e)
+enters_known scale clocks phases m enough line (EnterLine cell phase net bit) g =
     let r : EnterRule = record { line = line; cell = cell; phase = number_in phases phase; net = net; value = unwrap_or bit false } in
     single (HasPhase m) r (number_small phases phase m enough.0 enough.1)
-enters_known clocks phases m enough line e g = All-nil (HasPhase m)
+enters_known scale clocks phases m enough line e g = All-nil (HasPhase m)
 
 numbers_small : (phases : List (List ℕ)) (m : ℕ) → Enough phases m → (names : List (List ℕ)) → All (IsSmall m) (map (number_in phases) names)
 numbers_small phases m enough [] = All-nil (IsSmall m)
 numbers_small phases m enough (n ∷ ns) =
     All-cons (IsSmall m) (number_in phases n) (map (number_in phases) ns) (number_small phases n m enough.0 enough.1) (numbers_small phases m enough ns)
 
-observes_known : (clocks phases : List (List ℕ)) (m : ℕ) → Enough phases m → (line : ℕ) (e : Entry) → Good clocks phases e → All (HasPhases m) (observes_in phases line e)
-observes_known clocks phases m enough line (ObserveLine cell port named) g =
+observes_known : (scale : ℕ) (clocks phases : List (List ℕ)) (m : ℕ) → Enough phases m → (line : ℕ) (e : Entry) → Good scale clocks phases e → All (HasPhases m) (observes_in phases line e)
+observes_known scale clocks phases m enough line (ObserveLine cell port named) g =
     let r : ObserveRule = record { line = line; cell = cell; port = port; phases = map (number_in phases) named } in single (HasPhases m) r (numbers_small phases m enough named)
-observes_known clocks phases m enough line e g = All-nil (HasPhases m)
+observes_known scale clocks phases m enough line e g = All-nil (HasPhases m)
 
 below : (phases : List (List ℕ)) (m : ℕ) → Enough phases m → (o : Option (List ℕ)) → IsBelow m (option_map (number_in phases) o)
 unfolding IsBelow
 below phases m enough None = tt
 below phases m enough (Some phase) = number_small phases phase m enough.0 enough.1
 
-assumes_known : (clocks phases : List (List ℕ)) (m : ℕ) → Enough phases m → (line : ℕ) (e : Entry) → Good clocks phases e → All (InPhase m) (assumes_in phases line e)
-assumes_known clocks phases m enough line (AssumeLine cell phase tokens) g =
+assumes_known : (scale : ℕ) (clocks phases : List (List ℕ)) (m : ℕ) → Enough phases m → (line : ℕ) (e : Entry) → Good scale clocks phases e → All (InPhase m) (assumes_in phases line e)
+assumes_known scale clocks phases m enough line (AssumeLine cell phase tokens) g =
     let r : Assumed = record { line = line; cell = cell; phase = option_map (number_in phases) phase; formula = unwrap_or (formula_of tokens) (a_port []) } in
     single (InPhase m) r (below phases m enough phase)
-assumes_known clocks phases m enough line e g = All-nil (InPhase m)
+assumes_known scale clocks phases m enough line e g = All-nil (InPhase m)
 
-assumes_few : (clocks phases : List (List ℕ)) (line : ℕ) (e : Entry) → Good clocks phases e → All HasFew (assumes_in phases line e)
-assumes_few clocks phases line (AssumeLine cell phase tokens) g =
+assumes_few : (scale : ℕ) (clocks phases : List (List ℕ)) (line : ℕ) (e : Entry) → Good scale clocks phases e → All HasFew (assumes_in phases line e)
+assumes_few scale clocks phases line (AssumeLine cell phase tokens) g =
     let r : Assumed = record { line = line; cell = cell; phase = option_map (number_in phases) phase; formula = unwrap_or (formula_of tokens) (a_port []) } in
     single HasFew r (few_of tokens g.0.operators g.0.expression)
-assumes_few clocks phases line e g = All-nil HasFew
+assumes_few scale clocks phases line e g = All-nil HasFew
 
-names_back : (clocks phases : List (List ℕ)) (e : Entry) → Good clocks phases e → NamesBack phases e
-names_back clocks phases (EnterLine cell phase net bit) g = by_phases phases (known_one (known_from phases) phase g.0.phases_are) where
+names_back : (scale : ℕ) (clocks phases : List (List ℕ)) (e : Entry) → Good scale clocks phases e → NamesBack phases e
+names_back scale clocks phases (EnterLine cell phase net bit) g = by_phases phases (known_one (known_from phases) phase g.0.phases_are) where
   by_phases : (ps : List (List ℕ)) → has_name (known_from ps) phase ≡ true → word_at (known_from ps) (number_in ps phase) ≡ phase
   by_phases (p ∷ ps) e = name_back (p ∷ ps) phase e
   by_phases [] e = all_named (bytes_eq phase (codes "all")) refl e where
     all_named : (b : Bool) → bytes_eq phase (codes "all") ≡ b → (b || false) ≡ true → codes "all" ≡ phase
     all_named true h e = sym ((bytes_eq-Decides phase (codes "all")).0 h)
     all_named false h e = cc
-names_back clocks phases e g = tt
+names_back scale clocks phases e g = tt
 
 -- ---- lists of rules
 
@@ -272,10 +316,10 @@ all_apart clocks (p ∷ ps) n = n
 abbrev HasBits : List (List ℕ) → Phase → Type 0
 HasBits clocks p = length p.bits ≡ length clocks
 
-bits_on : (clocks phases : List (List ℕ)) (line : ℕ) (e : Entry) → Good clocks phases e → All (HasBits clocks) (phases_in clocks line e)
-bits_on clocks phases line (PhaseLine name bits) g =
+bits_on : (scale : ℕ) (clocks phases : List (List ℕ)) (line : ℕ) (e : Entry) → Good scale clocks phases e → All (HasBits clocks) (phases_in clocks line e)
+bits_on scale clocks phases line (PhaseLine name bits) g =
     let r : Phase = record { line = line; name = name; bits = map (bit_for bits) clocks } in single (HasBits clocks) r (length-map clocks (bit_for bits))
-bits_on clocks phases line e g = All-nil (HasBits clocks)
+bits_on scale clocks phases line e g = All-nil (HasBits clocks)
 
 bits_in_all : (clocks : List (List ℕ)) (ps : List Phase) → All (HasBits clocks) ps → All (HasBits clocks) (all_from clocks ps)
 bits_in_all clocks [] all =
@@ -335,18 +379,23 @@ pub fits : (text : List ℕ) (r : Rules) → IsClean fault_of (cards_of text) �
 fits text r clean are =
     let cards = cards_of text in
     let from : CleanFrom fault_of [] cards = clean_from fault_of cards clean in
+    let scale = scale_by cards in
     let clocks = clocks_of cards in
     let phases = phase_names_of cards in
     let t = are.tables in
-    let good : AllSay (Good clocks phases) cards = both_say (Settled clocks phases) Ranged cards (settled cards from) (ranged text) in
+    let devices_are : r.devices ≡ table (devices_in scale) cards = t.devices ∙ ap (λ s. table (devices_in s) cards) are.scale_is in
+    let strengths_are : r.strengths ≡ table (strengths_in scale) cards = t.strengths ∙ ap (λ s. table (strengths_in s) cards) are.scale_is in
+    let holds_are : r.holds ≡ table (holds_in scale) cards = t.holds ∙ ap (λ s. table (holds_in s) cards) are.scale_is in
+    let good : AllSay (Good scale clocks phases) cards = both_say (Settled scale clocks phases) Ranged cards (settled cards from) (ranged text) in
     let keys : NoRepeat (told key_texts cards) = keys_apart cards from in
     let ps = table (phases_in clocks) cards in
-    let phase_keys : NoRepeat (map phase_key ps) = no_repeat_within (table_within (phases_in clocks) phase_key (Good clocks phases) (λ line e g. phases_keyed clocks line e) cards good) keys in
+    let phase_keys : NoRepeat (map phase_key ps) = no_repeat_within (table_within (phases_in clocks) phase_key (Good scale clocks phases) (λ line e g. phases_keyed clocks line e) cards good) keys in
     let count : length phases ≡ length ps = count_names clocks cards phase_keys in
     let some = some_phase clocks ps in
     let size : length r.phases ≡ length (all_from clocks ps) = ap length are.phases_are in
     let enough : Enough phases (length r.phases) = (omega (arith, size, some.0), omega (arith, size, some.1, count)) in
     record {
+      scale = subst IsScale (sym are.scale_is) (is_scale cards (ranged text));
       clock_limit = omega (arith, ap length are.clocks_are, clocks_are_few cards from);
       clocks = subst (AllApart bytes_eq) (sym are.clocks_are) (clocks_apart cards);
       some_phase = enough.0;
@@ -355,60 +404,63 @@ fits text r clean are =
           (apart_by_key name_of (λ (a b : Phase). bytes_eq a.name b.name) (λ x y e. (bytes_eq-Decides x.name y.name).0 e) (all_from clocks ps) (all_apart clocks ps (names_apart ps phase_keys)));
       bits = subst (λ (xs : List Phase). All (λ (p : Phase). length p.bits ≡ length r.clocks) xs) (sym are.phases_are)
           (subst (λ (cs : List (List ℕ)). All (λ (p : Phase). length p.bits ≡ length cs) (all_from clocks ps)) (sym are.clocks_are)
-          (bits_in_all clocks ps (table_all (phases_in clocks) (HasBits clocks) (Good clocks phases) (bits_on clocks phases) cards good)));
+          (bits_in_all clocks ps (table_all (phases_in clocks) (HasBits clocks) (Good scale clocks phases) (bits_on scale clocks phases) cards good)));
       supplies = subst (AllApart same_supplies) (sym t.supplies)
-          (apart_by_key supply_key same_supplies (λ x y e. table_key (codes "supply ") x.net y.net e) (table supplies_in cards) (no_repeat_within (table_within supplies_in supply_key (Good clocks phases) (λ line e g. supplies_keyed line e) cards good) keys));
-      devices = subst (AllApart same_devices) (sym t.devices)
-          (apart_by_key device_key same_devices (λ x y e. table_key (codes "device ") x.model y.model e) (table devices_in cards) (no_repeat_within (table_within devices_in device_key (Good clocks phases) (λ line e g. devices_keyed line e) cards good) keys));
-      device_levels = subst (All HasLevel) (sym t.devices) (table_all devices_in HasLevel (Good clocks phases) (devices_level clocks phases) cards good);
-      strengths = subst (AllApart same_strengths) (sym t.strengths)
-          (apart_by_key strength_key same_strengths (λ x y e. cell_key (codes "strength ") x.cell y.cell x.device y.device e) (table strengths_in cards)
-          (no_repeat_within (table_within strengths_in strength_key (Good clocks phases) (λ line e g. strengths_keyed line e) cards good) keys));
-      strength_levels = subst (All HasStrength) (sym t.strengths) (table_all strengths_in HasStrength (Good clocks phases) (strengths_level clocks phases) cards good);
+          (apart_by_key supply_key same_supplies (λ x y e. table_key (codes "supply ") x.net y.net e) (table supplies_in cards) (no_repeat_within (table_within supplies_in supply_key (Good scale clocks phases) (λ line e g. supplies_keyed line e) cards good) keys));
+      devices = subst (AllApart same_devices) (sym devices_are)
+          (apart_by_key device_key same_devices (λ x y e. table_key (codes "device ") x.model y.model e) (table (devices_in scale) cards) (no_repeat_within (table_within (devices_in scale) device_key (Good scale clocks phases) (λ line e g. devices_keyed scale line e) cards good) keys));
+      device_levels = subst (λ s. All (λ (d : DeviceRule). IsLevelAt s d.level) r.devices) (sym are.scale_is)
+          (subst (All (HasLevel scale)) (sym devices_are) (table_all (devices_in scale) (HasLevel scale) (Good scale clocks phases) (devices_level scale clocks phases) cards good));
+      strengths = subst (AllApart same_strengths) (sym strengths_are)
+          (apart_by_key strength_key same_strengths (λ x y e. cell_key (codes "strength ") x.cell y.cell x.device y.device e) (table (strengths_in scale) cards)
+          (no_repeat_within (table_within (strengths_in scale) strength_key (Good scale clocks phases) (λ line e g. strengths_keyed scale line e) cards good) keys));
+      strength_levels = subst (λ s. All (λ (x : StrengthRule). IsLevelAt s x.level) r.strengths) (sym are.scale_is)
+          (subst (All (HasStrength scale)) (sym strengths_are) (table_all (strengths_in scale) (HasStrength scale) (Good scale clocks phases) (strengths_level scale clocks phases) cards good));
       clockports = subst (AllApart same_clockports) (sym t.clockports)
           (apart_by_key clockport_key same_clockports (λ x y e. cell_key (codes "clockport ") x.cell y.cell x.port y.port e) (table (clockports_in clocks) cards)
-          (no_repeat_within (table_within (clockports_in clocks) clockport_key (Good clocks phases) (λ line e g. clockports_keyed clocks line e) cards good) keys));
+          (no_repeat_within (table_within (clockports_in clocks) clockport_key (Good scale clocks phases) (λ line e g. clockports_keyed clocks line e) cards good) keys));
       clockport_clocks = subst (λ (cs : List (List ℕ)). All (λ (c : ClockportRule). c.clock.clock < length cs) r.clockports) (sym are.clocks_are)
-          (subst (All (HasClock clocks)) (sym t.clockports) (table_all (clockports_in clocks) (HasClock clocks) (Good clocks phases) (clockports_known clocks phases) cards good));
+          (subst (All (HasClock clocks)) (sym t.clockports) (table_all (clockports_in clocks) (HasClock clocks) (Good scale clocks phases) (clockports_known scale clocks phases) cards good));
       defaultclock = omega (
         arith,
         ap length t.defaultclocks,
         one_key (table (defaultclocks_in clocks) cards)
-            (no_repeat_within (table_within (defaultclocks_in clocks) defaultclock_key (Good clocks phases) (λ line e g. defaultclocks_keyed clocks line e) cards good) keys),
+            (no_repeat_within (table_within (defaultclocks_in clocks) defaultclock_key (Good scale clocks phases) (λ line e g. defaultclocks_keyed clocks line e) cards good) keys),
       );
       default_clocks = subst (λ (cs : List (List ℕ)). All (λ (c : DefaultclockRule). c.clock < length cs) r.defaultclocks) (sym are.clocks_are)
-          (subst (All (HasDefault clocks)) (sym t.defaultclocks) (table_all (defaultclocks_in clocks) (HasDefault clocks) (Good clocks phases) (defaultclocks_known clocks phases) cards good));
+          (subst (All (HasDefault clocks)) (sym t.defaultclocks) (table_all (defaultclocks_in clocks) (HasDefault clocks) (Good scale clocks phases) (defaultclocks_known scale clocks phases) cards good));
       pairs = subst (AllApart same_pairs) (sym t.pairs)
-          (apart_by_key pair_key same_pairs (λ x y e. table_key (codes "pair ") x.cell y.cell e) (table pairs_in cards) (no_repeat_within (table_within pairs_in pair_key (Good clocks phases) (λ line e g. pairs_keyed line e) cards good) keys));
+          (apart_by_key pair_key same_pairs (λ x y e. table_key (codes "pair ") x.cell y.cell e) (table pairs_in cards) (no_repeat_within (table_within pairs_in pair_key (Good scale clocks phases) (λ line e g. pairs_keyed line e) cards good) keys));
       ports = subst (AllApart same_ports) (sym t.ports)
           (apart_by_key port_key same_ports (λ x y e. cell_key (codes "port ") x.cell y.cell x.port y.port e) (table ports_in cards)
-          (no_repeat_within (table_within ports_in port_key (Good clocks phases) (λ line e g. ports_keyed line e) cards good) keys));
-      holds = subst (AllApart same_holds) (sym t.holds)
-          (apart_by_key hold_key same_holds (λ x y e. cell_key (codes "hold ") x.cell y.cell x.net y.net e) (table holds_in cards)
-          (no_repeat_within (table_within holds_in hold_key (Good clocks phases) (λ line e g. holds_keyed line e) cards good) keys));
-      sizes = subst (All HasSize) (sym t.holds) (table_all holds_in HasSize (Good clocks phases) (holds_size clocks phases) cards good);
+          (no_repeat_within (table_within ports_in port_key (Good scale clocks phases) (λ line e g. ports_keyed line e) cards good) keys));
+      holds = subst (AllApart same_holds) (sym holds_are)
+          (apart_by_key hold_key same_holds (λ x y e. cell_key (codes "hold ") x.cell y.cell x.net y.net e) (table (holds_in scale) cards)
+          (no_repeat_within (table_within (holds_in scale) hold_key (Good scale clocks phases) (λ line e g. holds_keyed scale line e) cards good) keys));
+      sizes = subst (λ s. All (λ (h : HoldRule). IsSizeAt s h.size) r.holds) (sym are.scale_is)
+          (subst (All (HasSize scale)) (sym holds_are) (table_all (holds_in scale) (HasSize scale) (Good scale clocks phases) (holds_size scale clocks phases) cards good));
       keepers = subst (AllApart same_keepers) (sym t.keepers)
           (apart_by_key keeper_key same_keepers (λ x y e. cell_key (codes "keeper ") x.cell y.cell x.device y.device e) (table keepers_in cards)
-          (no_repeat_within (table_within keepers_in keeper_key (Good clocks phases) (λ line e g. keepers_keyed line e) cards good) keys));
+          (no_repeat_within (table_within keepers_in keeper_key (Good scale clocks phases) (λ line e g. keepers_keyed line e) cards good) keys));
       matches = subst (AllApart same_matches) (sym t.matches)
           (apart_by_key match_key same_matches (λ x y e. cell_key (codes "match ") x.cell y.cell x.net y.net e) (table matches_in cards)
-          (no_repeat_within (table_within matches_in match_key (Good clocks phases) (λ line e g. matches_keyed line e) cards good) keys));
+          (no_repeat_within (table_within matches_in match_key (Good scale clocks phases) (λ line e g. matches_keyed line e) cards good) keys));
       instance_matches = subst (AllApart same_instance_matches) (sym t.instance_matches)
           (apart_by_key instance_match_key same_instance_matches
           (λ x y e. let all = three_names x.cell y.cell x.instance y.instance x.inner y.inner e in inner_key (codes "match ") all.0 all.1 all.2) (table instance_matches_in cards)
-          (no_repeat_within (table_within instance_matches_in instance_match_key (Good clocks phases) (λ line e g. instance_matches_keyed line e) cards good) keys));
+          (no_repeat_within (table_within instance_matches_in instance_match_key (Good scale clocks phases) (λ line e g. instance_matches_keyed line e) cards good) keys));
       enters = subst (AllApart same_enters) (sym t.enters)
           (apart_by_key (enter_key (known_from phases)) same_enters
           (λ x y e. let all = three_same x.cell y.cell x.phase y.phase x.net y.net e in inner_key (codes "enter ") all.0 (ap (word_at (known_from phases)) all.1) all.2) (table (enters_in phases) cards)
-          (no_repeat_within (table_within (enters_in phases) (enter_key (known_from phases)) (Good clocks phases) (λ line e g. enters_keyed phases line e (names_back clocks phases e g)) cards good) keys));
-      enter_phases = subst (All (HasPhase (length r.phases))) (sym t.enters) (table_all (enters_in phases) (HasPhase (length r.phases)) (Good clocks phases) (enters_known clocks phases (length r.phases) enough) cards good);
+          (no_repeat_within (table_within (enters_in phases) (enter_key (known_from phases)) (Good scale clocks phases) (λ line e g. enters_keyed phases line e (names_back scale clocks phases e g)) cards good) keys));
+      enter_phases = subst (All (HasPhase (length r.phases))) (sym t.enters) (table_all (enters_in phases) (HasPhase (length r.phases)) (Good scale clocks phases) (enters_known scale clocks phases (length r.phases) enough) cards good);
       observes = subst (AllApart same_observes) (sym t.observes)
           (apart_by_key observe_key same_observes (λ x y e. cell_key (codes "observe ") x.cell y.cell x.port y.port e) (table (observes_in phases) cards)
-          (no_repeat_within (table_within (observes_in phases) observe_key (Good clocks phases) (λ line e g. observes_keyed phases line e) cards good) keys));
-      observe_phases = subst (All (HasPhases (length r.phases))) (sym t.observes) (table_all (observes_in phases) (HasPhases (length r.phases)) (Good clocks phases) (observes_known clocks phases (length r.phases) enough) cards good);
+          (no_repeat_within (table_within (observes_in phases) observe_key (Good scale clocks phases) (λ line e g. observes_keyed phases line e) cards good) keys));
+      observe_phases = subst (All (HasPhases (length r.phases))) (sym t.observes) (table_all (observes_in phases) (HasPhases (length r.phases)) (Good scale clocks phases) (observes_known scale clocks phases (length r.phases) enough) cards good);
       assume_phases = all_more (λ (a : AssumeRule). IsBelow (length r.phases) a.phase) (λ (a : AssumeRule). IsPhaseOf r a.phase) (λ a lt. phase_of r a.phase lt) r.assumes
           (all_back (InPhase (length r.phases)) r.assumes
-          (subst (All (InPhase (length r.phases))) (sym t.assumes) (table_all (assumes_in phases) (InPhase (length r.phases)) (Good clocks phases) (assumes_known clocks phases (length r.phases) enough) cards good)));
+          (subst (All (InPhase (length r.phases))) (sym t.assumes) (table_all (assumes_in phases) (InPhase (length r.phases)) (Good scale clocks phases) (assumes_known scale clocks phases (length r.phases) enough) cards good)));
       assume_limit = all_more (λ (a : AssumeRule). operators_of (seen a.expression) ≤ 1000) (λ (a : AssumeRule). operators_in a.expression ≤ 1000) (λ a few. few_seen a.expression few) r.assumes
-          (all_back HasFew r.assumes (subst (All HasFew) (sym t.assumes) (table_all (assumes_in phases) HasFew (Good clocks phases) (assumes_few clocks phases) cards good)));
+          (all_back HasFew r.assumes (subst (All HasFew) (sym t.assumes) (table_all (assumes_in phases) HasFew (Good scale clocks phases) (assumes_few scale clocks phases) cards good)));
     }

@@ -15,6 +15,7 @@ pub adds_none : (clocks phases : List (List ℕ)) (line : ℕ) (group : Option E
 adds_none clocks phases line group rules none = subst (λ o. Adds clocks phases line o rules rules) (sym none) nothing where
   nothing : Adds clocks phases line None rules rules
   nothing = record {
+    scale_is = refl;
     clocks_are = refl;
     phases_are = sym (append-nil _);
     supplies = sym (append-nil _);

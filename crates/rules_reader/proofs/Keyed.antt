@@ -81,13 +81,13 @@ supplies_keyed line (SupplyLine value nets) =
     subst (λ xs. Within xs (key_texts (SupplyLine value nets))) (sym (within_maps (supply_rule line value) supply_key (key (codes "supply ")) text (λ n. refl) nets)) (within_all (key_texts (SupplyLine value nets)))
 supplies_keyed line e = within_none (key_texts e)
 
-pub devices_keyed : (line : ℕ) (e : Entry) → Within (map device_key (devices_in line e)) (key_texts e)
-devices_keyed line (DeviceLine model kind level) = keeps nothing
-devices_keyed line e = within_none (key_texts e)
+pub devices_keyed : (scale line : ℕ) (e : Entry) → Within (map device_key (devices_in scale line e)) (key_texts e)
+devices_keyed scale line (DeviceLine model kind level) = keeps nothing
+devices_keyed scale line e = within_none (key_texts e)
 
-pub strengths_keyed : (line : ℕ) (e : Entry) → Within (map strength_key (strengths_in line e)) (key_texts e)
-strengths_keyed line (StrengthLine cell device level) = keeps nothing
-strengths_keyed line e = within_none (key_texts e)
+pub strengths_keyed : (scale line : ℕ) (e : Entry) → Within (map strength_key (strengths_in scale line e)) (key_texts e)
+strengths_keyed scale line (StrengthLine cell device level) = keeps nothing
+strengths_keyed scale line e = within_none (key_texts e)
 
 pub phases_keyed : (clocks : List (List ℕ)) (line : ℕ) (e : Entry) → Within (map phase_key (phases_in clocks line e)) (key_texts e)
 phases_keyed clocks line (PhaseLine name bits) = keeps (within_none (map text (map (key (codes "phase " ++ spaced name)) (clocks_on bits))))
@@ -109,9 +109,9 @@ pub ports_keyed : (line : ℕ) (e : Entry) → Within (map port_key (ports_in li
 ports_keyed line (PortLine cell port signal) = keeps nothing
 ports_keyed line e = within_none (key_texts e)
 
-pub holds_keyed : (line : ℕ) (e : Entry) → Within (map hold_key (holds_in line e)) (key_texts e)
-holds_keyed line (HoldLine cell net size) = keeps nothing
-holds_keyed line e = within_none (key_texts e)
+pub holds_keyed : (scale line : ℕ) (e : Entry) → Within (map hold_key (holds_in scale line e)) (key_texts e)
+holds_keyed scale line (HoldLine cell net size) = keeps nothing
+holds_keyed scale line e = within_none (key_texts e)
 
 pub keepers_keyed : (line : ℕ) (e : Entry) → Within (map keeper_key (keepers_in line e)) (key_texts e)
 keepers_keyed line (KeeperLine cell devices) =

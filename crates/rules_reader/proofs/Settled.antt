@@ -6,14 +6,15 @@ use Rattle.std.proofs.lemmas.Grind.{flat_map-append}
 use Rattle.vrt_model.specs.Lists.{distinct, has_name, is_empty}
 use Rattle.names.specs.Names.{with_names}
 use Rattle.text_lines.proofs.FaultLaws.{CleanFrom}
-use Rattle.rules_reader.specs.Refused.{clocks_named, fault_of, first_missing, has_bad_expression, has_bad_number, is_misplaced, known_by, lacks_bit, known_from, passes_own_limit, phases_named}
-use Rattle.rules_reader.specs.Tables.{clocks_in, clocks_of, phase_names_in, phase_names_of, told, told_on}
+use Rattle.rules_reader.specs.Refused.{clocks_named, fault_of, first_missing, has_bad_expression, has_bad_number, is_misplaced, known_by, lacks_bit, known_from, levels_on, passes_own_limit, phases_named}
+use Rattle.rules_reader.specs.Tables.{clocks_in, clocks_of, phase_names_in, phase_names_of, scale_by, scale_from, scales_in, told, told_on}
 use Rattle.rules_expression.specs.Tokens.{nests_deeper, operator_count}
 use Rattle.rules_reader.specs.declared.cards.Card.{Card}
 use Rattle.rules_lines.specs.declared.entry.Entry.{Entry}
-use Rattle.rules_lines.specs.declared.entry.Entry.TheVariants.{ClockLine, PhaseLine, AssumeLine}
+use Rattle.rules_lines.specs.declared.entry.Entry.TheVariants.{ScaleLine, DeviceLine, StrengthLine, HoldLine, ClockLine, PhaseLine, AssumeLine}
 use Rattle.rules_reader.specs.declared.known.Known.{Known}
 use Rattle.rules_reader.proofs.Fine.{AllSay, Fine, Says, here, known_next, says, told_here}
+use Rattle.rules_reader.proofs.KnownLaws.{scale_more}
 use Rattle.names.proofs.NameLaws.{distinct_more, length-with_names}
 use Rattle.names.proofs.NewLaws.{among_more}
 
@@ -57,6 +58,29 @@ no_later_phase before (card ∷ cards) clean named =
     let s = says before card clean.0 in
     ap₂ (λ xs ys. xs ++ ys) (told_here phase_names_in (length before) (known_by before) card s ∙ no_phase (known_by before) s.entry named s.fine.placed)
     (no_later_phase (before ++ card ∷ []) cards clean.1 (named_then before card s named))
+
+-- ---- no scale is said behind a line with a level or a size
+
+scale_then : (before cards : List Card) → (known_by (before ++ cards)).scale ≡ scale_from (known_by before).scale (told scales_in cards)
+unfolding known_by scale_by
+scale_then before cards = ap (scale_from 8) (flat_map-append (told_on scales_in) before cards) ∙ scale_more 8 (told scales_in before) (told scales_in cards)
+
+no_scale : (known : Known) (entry : Entry) → known.has_levels ≡ true → is_misplaced known entry ≡ false → scales_in entry ≡ []
+no_scale known (ScaleLine scale) levels placed = absurd (clash known.has_levels levels placed) where
+  clash : (a : Bool) → a ≡ true → a ≡ false → ⊥
+  clash true n p = cc
+  clash false n p = cc
+no_scale known entry levels placed = refl
+
+levels_then : (before : List Card) (card : Card) (s : Says (length before) (known_by before) card) → (known_by before).has_levels ≡ true → (known_by (before ++ card ∷ [])).has_levels ≡ true
+levels_then before card s levels = ap (λ (k : Known). k.has_levels) (known_next before card s) ∙ or_left (known_by before).has_levels (not (is_empty (levels_on s.entry))) levels
+
+no_later_scale : (before cards : List Card) → CleanFrom fault_of before cards → (known_by before).has_levels ≡ true → told scales_in cards ≡ []
+no_later_scale before [] clean levels = refl
+no_later_scale before (card ∷ cards) clean levels =
+    let s = says before card clean.0 in
+    ap₂ (λ xs ys. xs ++ ys) (told_here scales_in (length before) (known_by before) card s ∙ no_scale (known_by before) s.entry levels s.fine.placed)
+    (no_later_scale (before ++ card ∷ []) cards clean.1 (levels_then before card s levels))
 
 -- ---- limits
 
@@ -109,9 +133,9 @@ phases_are_few cards clean = (few_then [] cards clean none_known).phases
 
 -- ---- lines
 
--- what a line says, where these clocks and phases are known in the end
-pub record Settled (clocks phases : List (List ℕ)) (entry : Entry) : Type 0 where
-  pub numbers : has_bad_number entry ≡ false
+-- what a line says, where this scale and these clocks and phases are known in the end
+pub record Settled (scale : ℕ) (clocks phases : List (List ℕ)) (entry : Entry) : Type 0 where
+  pub numbers : has_bad_number scale entry ≡ false
   pub expression : has_bad_expression entry ≡ false
   pub operators : FewOperators entry
   pub clocks_are : first_missing clocks (clocks_named entry) ≡ None
@@ -135,6 +159,26 @@ settled_phases before card cards clean s = by_named (phases_named s.entry) refl 
       (no_later_phase (before ++ card ∷ []) cards clean.1 named) in
       ap (λ ps. first_missing (known_from ps) (n ∷ ns)) (phases_then before (card ∷ cards) ∙ ap (with_names (known_by before).phases) none) ∙ h
 
+-- the scale at a line with a level or a size is that of all lines
+same_scale : (before : List Card) (card : Card) (cards : List Card) → CleanFrom fault_of before (card ∷ cards) → (s : Says (length before) (known_by before) card)
+    → scales_in s.entry ≡ [] → not (is_empty (levels_on s.entry)) ≡ true → (known_by (before ++ card ∷ cards)).scale ≡ (known_by before).scale
+same_scale before card cards clean s own level =
+    let levels : (known_by (before ++ card ∷ [])).has_levels ≡ true = ap (λ (k : Known). k.has_levels) (known_next before card s)
+    ∙ ap (λ b. (known_by before).has_levels || b) level ∙ or_true (known_by before).has_levels in
+    let none : told scales_in (card ∷ cards) ≡ [] = ap₂ (λ xs ys. xs ++ ys) (told_here scales_in (length before) (known_by before) card s ∙ own)
+    (no_later_scale (before ++ card ∷ []) cards clean.1 levels) in
+    scale_then before (card ∷ cards) ∙ ap (scale_from (known_by before).scale) none
+
+settled_numbers : (before : List Card) (card : Card) (cards : List Card) → CleanFrom fault_of before (card ∷ cards) → (s : Says (length before) (known_by before) card)
+    → has_bad_number (known_by (before ++ card ∷ cards)).scale s.entry ≡ false
+settled_numbers before card cards clean s = by_entry s.entry (same_scale before card cards clean s) s.fine.numbers where
+  by_entry : (e : Entry) → (scales_in e ≡ [] → not (is_empty (levels_on e)) ≡ true → (known_by (before ++ card ∷ cards)).scale ≡ (known_by before).scale)
+      → has_bad_number (known_by before).scale e ≡ false → has_bad_number (known_by (before ++ card ∷ cards)).scale e ≡ false
+  by_entry (DeviceLine model kind level) same good = ap (λ scale. has_bad_number scale (DeviceLine model kind level)) (same refl refl) ∙ good
+  by_entry (StrengthLine cell device level) same good = ap (λ scale. has_bad_number scale (StrengthLine cell device level)) (same refl refl) ∙ good
+  by_entry (HoldLine cell net size) same good = ap (λ scale. has_bad_number scale (HoldLine cell net size)) (same refl refl) ∙ good
+  by_entry e same good = good
+
 settled_clocks : (before : List Card) (card : Card) (cards : List Card) (s : Says (length before) (known_by before) card)
     → first_missing (known_by (before ++ card ∷ cards)).clocks (clocks_named s.entry) ≡ None
 settled_clocks before card cards s =
@@ -142,12 +186,12 @@ settled_clocks before card cards s =
     (λ z h. ap (λ cs. has_name cs z) (clocks_then before (card ∷ cards)) ∙ among_more (known_by before).clocks (told clocks_in (card ∷ cards)) z h)
     (clocks_named s.entry) s.fine.clocks
 
-all_settled : (final before cards : List Card) → before ++ cards ≡ final → CleanFrom fault_of before cards → AllSay (Settled (known_by final).clocks (known_by final).phases) cards
+all_settled : (final before cards : List Card) → before ++ cards ≡ final → CleanFrom fault_of before cards → AllSay (Settled (known_by final).scale (known_by final).clocks (known_by final).phases) cards
 all_settled final before [] is clean = tt
 all_settled final before (card ∷ cards) is clean =
     let s = says before card clean.0 in (
-      here (Settled (known_by final).clocks (known_by final).phases) (length before) (known_by before) card s (record {
-        numbers = s.fine.numbers;
+      here (Settled (known_by final).scale (known_by final).clocks (known_by final).phases) (length before) (known_by before) card s (record {
+        numbers = subst (λ cs. has_bad_number (known_by cs).scale s.entry ≡ false) is (settled_numbers before card cards clean s);
         expression = s.fine.expression;
         operators = few_operators (known_by before).clocks (known_by before).phases s.entry (own_limit (length before) (known_by before) s.entry s.fine);
         clocks_are = subst (λ cs. first_missing (known_by cs).clocks (clocks_named s.entry) ≡ None) is (settled_clocks before card cards s);
@@ -156,6 +200,6 @@ all_settled final before (card ∷ cards) is clean =
       all_settled final (before ++ card ∷ []) cards (append_assoc before (card ∷ []) cards ∙ is) clean.1,
     )
 
-pub settled : (cards : List Card) → CleanFrom fault_of [] cards → AllSay (Settled (clocks_of cards) (phase_names_of cards)) cards
+pub settled : (cards : List Card) → CleanFrom fault_of [] cards → AllSay (Settled (scale_by cards) (clocks_of cards) (phase_names_of cards)) cards
 unfolding known_by
 settled cards clean = all_settled cards [] cards refl clean

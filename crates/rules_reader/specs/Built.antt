@@ -8,16 +8,17 @@ use Rattle.vrt_model.specs.declared.rules.Rules.{Rules}
 
 -- where these clocks and phases have numbers
 pub record Adds (clocks phases : List (List ℕ)) (line : ℕ) (entry : Option Entry) (old new : Rules) : Type 0 where
+  pub scale_is : new.scale ≡ old.scale
   pub clocks_are : new.clocks ≡ old.clocks
   pub phases_are : new.phases ≡ old.phases ++ by_entry (phases_in clocks) line entry
   pub supplies : new.supplies ≡ old.supplies ++ by_entry supplies_in line entry
-  pub devices : new.devices ≡ old.devices ++ by_entry devices_in line entry
-  pub strengths : new.strengths ≡ old.strengths ++ by_entry strengths_in line entry
+  pub devices : new.devices ≡ old.devices ++ by_entry (devices_in old.scale) line entry
+  pub strengths : new.strengths ≡ old.strengths ++ by_entry (strengths_in old.scale) line entry
   pub clockports : new.clockports ≡ old.clockports ++ by_entry (clockports_in clocks) line entry
   pub defaultclocks : new.defaultclocks ≡ old.defaultclocks ++ by_entry (defaultclocks_in clocks) line entry
   pub pairs : new.pairs ≡ old.pairs ++ by_entry pairs_in line entry
   pub ports : new.ports ≡ old.ports ++ by_entry ports_in line entry
-  pub holds : new.holds ≡ old.holds ++ by_entry holds_in line entry
+  pub holds : new.holds ≡ old.holds ++ by_entry (holds_in old.scale) line entry
   pub keepers : new.keepers ≡ old.keepers ++ by_entry keepers_in line entry
   pub matches : new.matches ≡ old.matches ++ by_entry matches_in line entry
   pub instance_matches : new.instance_matches ≡ old.instance_matches ++ by_entry instance_matches_in line entry
@@ -26,7 +27,8 @@ pub record Adds (clocks phases : List (List ℕ)) (line : ℕ) (entry : Option E
   pub assumes : map assumed new.assumes ≡ map assumed old.assumes ++ by_entry (assumes_in phases) line entry
 
 -- the tables of the lines so far
-pub record AreSoFar (clocks phases names : List (List ℕ)) (cards : List Card) (rules : Rules) : Type 0 where
+pub record AreSoFar (clocks phases names : List (List ℕ)) (scale : ℕ) (cards : List Card) (rules : Rules) : Type 0 where
+  pub scale_is : rules.scale ≡ scale
   pub clocks_are : rules.clocks ≡ names
   pub phases_are : rules.phases ≡ table (phases_in clocks) cards
   pub tables : AreTablesOf clocks phases cards rules

@@ -4,7 +4,7 @@ use Rattle.vrt_model.specs.Lists.{has_name}
 use Rattle.names.specs.Names.{with_name}
 use Rattle.rules_lines.specs.declared.entry.ClockBit.{ClockBit}
 use Rattle.rules_lines.specs.declared.entry.Entry.{Entry}
-use Rattle.rules_lines.specs.declared.entry.Entry.TheVariants.{SupplyLine, DeviceLine, StrengthLine, ClockLine, PhaseLine, ClockportLine, DefaultclockLine, PairLine, PortLine, HoldLine, KeeperLine, MatchLine, InstanceMatchLine, EnterLine, ObserveLine, AssumeLine}
+use Rattle.rules_lines.specs.declared.entry.Entry.TheVariants.{ScaleLine, SupplyLine, DeviceLine, StrengthLine, ClockLine, PhaseLine, ClockportLine, DefaultclockLine, PairLine, PortLine, HoldLine, KeeperLine, MatchLine, InstanceMatchLine, EnterLine, ObserveLine, AssumeLine}
 
 -- A key is the words of its table before the last, each with a blank behind it, and its last word. Words hold no
 -- blank, so two keys are the same text only where they have the same words.
@@ -25,6 +25,7 @@ abbrev pub clocks_on : List ClockBit → List (List ℕ)
 clocks_on bits = map (λ (b : ClockBit). b.clock) bits
 
 abbrev pub keys_of : Entry → List Key
+keys_of (ScaleLine scale) = key [] (codes "scale") ∷ []
 keys_of (SupplyLine value nets) = map (key (codes "supply ")) nets
 keys_of (DeviceLine model kind level) = key (codes "device ") model ∷ []
 keys_of (StrengthLine cell device level) = key (codes "strength " ++ spaced cell) device ∷ []

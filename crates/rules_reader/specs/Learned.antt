@@ -3,8 +3,8 @@ use Rattle.std.specs.Prelude.{◌≡◌, List, not, ◌||◌, Option, Some, None
 use Rattle.text_lines.specs.Reading.{IsReading}
 use Rattle.vrt_model.specs.Lists.{is_empty}
 use Rattle.names.specs.Names.{with_names}
-use Rattle.rules_reader.specs.Refused.{fault_of, key_texts, known_by, phases_named}
-use Rattle.rules_reader.specs.Tables.{clocks_in, phase_names_in}
+use Rattle.rules_reader.specs.Refused.{fault_of, key_texts, known_by, levels_on, phases_named}
+use Rattle.rules_reader.specs.Tables.{clocks_in, phase_names_in, scale_from, scales_in}
 use Rattle.rules_reader.specs.declared.cards.Card.{Card}
 use Rattle.rules_lines.specs.declared.entry.Entry.{Entry}
 use Rattle.rules_reader.specs.declared.known.Known.{Known}
@@ -15,6 +15,8 @@ learned_by known entry = record {
   phases = with_names known.phases (phase_names_in entry);
   keys = with_names known.keys (key_texts entry);
   is_phase_named = known.is_phase_named || not (is_empty (phases_named entry));
+  scale = scale_from known.scale (scales_in entry);
+  has_levels = known.has_levels || not (is_empty (levels_on entry));
 }
 
 abbrev pub learned_from : Known → Option Entry → Known

@@ -6,12 +6,14 @@ use Rattle.vrt_model.specs.Lists.{has_name, is_empty}
 use Rattle.names.specs.Names.{with_names}
 use Rattle.rules_reader.specs.Keys.{clocks_on, keys_of, repeated, text}
 use Rattle.rules_expression.specs.Readings.{formula_of}
-use Rattle.rules_reader.specs.Tables.{clocks_of, phase_names_of, told}
+use Rattle.rules_reader.specs.Tables.{clocks_of, phase_names_of, scale_by, told}
 use Rattle.rules_expression.specs.Tokens.{nests_deeper, operator_count}
 use Rattle.rules_reader.specs.declared.cards.Card.{Card}
+use Rattle.rules_lines.specs.Words.{at_scale}
+use Rattle.rules_lines.specs.declared.entry.ByScale.{ByScale}
 use Rattle.rules_lines.specs.declared.entry.ClockBit.{ClockBit}
 use Rattle.rules_lines.specs.declared.entry.Entry.{Entry}
-use Rattle.rules_lines.specs.declared.entry.Entry.TheVariants.{DeviceLine, StrengthLine, ClockLine, PhaseLine, ClockportLine, DefaultclockLine, HoldLine, EnterLine, ObserveLine, AssumeLine}
+use Rattle.rules_lines.specs.declared.entry.Entry.TheVariants.{ScaleLine, DeviceLine, StrengthLine, ClockLine, PhaseLine, ClockportLine, DefaultclockLine, HoldLine, EnterLine, ObserveLine, AssumeLine}
 use Rattle.rules_reader.specs.declared.faults.RulesFault.{RulesFault}
 use Rattle.rules_reader.specs.declared.faults.RulesFault.TheVariants.{NotText, Word, Number, Expr, Twice, UnknownPhase, UnknownClock, Limit}
 use Rattle.rules_reader.specs.declared.known.Known.{Known}
@@ -28,13 +30,23 @@ phases_named (ObserveLine cell port phases) = phases
 phases_named (AssumeLine cell (Some phase) tokens) = phase ∷ []
 phases_named entry = []
 
--- the clocks and phases so far, the keys so far, and whether a line names a phase
+-- the level or the size of a line
+abbrev pub levels_on : Entry → List ByScale
+levels_on (DeviceLine model kind level) = level ∷ []
+levels_on (StrengthLine cell device level) = level ∷ []
+levels_on (HoldLine cell net size) = size ∷ []
+levels_on entry = []
+
+-- the clocks and phases so far, the keys so far, whether a line names a phase, the scale so far, and whether a line has a
+-- level or a size
 unfoldable pub known_by : List Card → Known
 known_by before = record {
   clocks = clocks_of before;
   phases = phase_names_of before;
   keys = with_names [] (told key_texts before);
   is_phase_named = not (is_empty (told phases_named before));
+  scale = scale_by before;
+  has_levels = not (is_empty (told levels_on before));
 }
 
 -- `all` is known while there is no `phase` line
@@ -44,17 +56,17 @@ known_from (name ∷ names) = name ∷ names
 
 -- ---- the conditions
 
--- a level, a size or a bit is not one digit of its range
+-- a level or a size is not of its range and form at this scale, or a bit is neither 0 nor 1
 abbrev pub is_bad_bit : ClockBit → Bool
 is_bad_bit b = is_none b.bit
 
-abbrev pub has_bad_number : Entry → Bool
-has_bad_number (DeviceLine model kind level) = is_none level
-has_bad_number (StrengthLine cell device level) = is_none level
-has_bad_number (PhaseLine name bits) = list_any is_bad_bit bits
-has_bad_number (HoldLine cell net size) = is_none size
-has_bad_number (EnterLine cell phase net bit) = is_none bit
-has_bad_number entry = false
+abbrev pub has_bad_number : ℕ → Entry → Bool
+has_bad_number scale (DeviceLine model kind level) = is_none (at_scale scale level)
+has_bad_number scale (StrengthLine cell device level) = is_none (at_scale scale level)
+has_bad_number scale (PhaseLine name bits) = list_any is_bad_bit bits
+has_bad_number scale (HoldLine cell net size) = is_none (at_scale scale size)
+has_bad_number scale (EnterLine cell phase net bit) = is_none bit
+has_bad_number scale entry = false
 
 -- an expression of another form
 abbrev pub has_bad_expression : Entry → Bool
@@ -68,9 +80,10 @@ is_bit_of clock b = bytes_eq clock b.clock
 abbrev pub lacks_bit : List ClockBit → List ℕ → Bool
 lacks_bit bits clock = not (list_any (is_bit_of clock) bits)
 
--- a `clock` line after a `phase` line, a `phase` line that gives some clock no bit, or a `phase` line after a line that
--- names a phase
+-- a `scale` line after a line with a level or a size, a `clock` line after a `phase` line, a `phase` line that gives some
+-- clock no bit, or a `phase` line after a line that names a phase
 abbrev pub is_misplaced : Known → Entry → Bool
+is_misplaced known (ScaleLine scale) = known.has_levels
 is_misplaced known (ClockLine names) = not (is_empty known.phases)
 is_misplaced known (PhaseLine name bits) = known.is_phase_named || list_any (lacks_bit bits) known.clocks
 is_misplaced known entry = false
@@ -104,7 +117,7 @@ passes_limit count clocks phases entry = nat_le 100000 count || passes_own_limit
 abbrev pub entry_faults : ℕ → Known → ℕ → Entry → List (Option RulesFault)
 entry_faults count known line entry =
     when (is_misplaced known entry) (Word line)
-    ∷ when (has_bad_number entry) (Number line)
+    ∷ when (has_bad_number known.scale entry) (Number line)
     ∷ when (has_bad_expression entry) (Expr line)
     ∷ option_map (Twice line) (repeated known.keys (keys_of entry))
     ∷ option_map (UnknownPhase line) (first_missing (known_from known.phases) (phases_named entry))

@@ -8,8 +8,9 @@ use Rattle.rules_expression.specs.Readings.{formula_of}
 use Rattle.rules_reader.specs.declared.cards.Card.{Card}
 use Rattle.rules_lines.specs.declared.entry.ClockBit.{ClockBit}
 use Rattle.rules_lines.specs.declared.entry.Entry.{Entry}
-use Rattle.rules_lines.specs.declared.entry.Entry.TheVariants.{SupplyLine, DeviceLine, StrengthLine, ClockLine, PhaseLine, ClockportLine, DefaultclockLine, PairLine, PortLine, HoldLine, KeeperLine, MatchLine, InstanceMatchLine, EnterLine, ObserveLine, AssumeLine}
+use Rattle.rules_lines.specs.declared.entry.Entry.TheVariants.{ScaleLine, SupplyLine, DeviceLine, StrengthLine, ClockLine, PhaseLine, ClockportLine, DefaultclockLine, PairLine, PortLine, HoldLine, KeeperLine, MatchLine, InstanceMatchLine, EnterLine, ObserveLine, AssumeLine}
 use Rattle.rules_lines.specs.declared.entry.Signed.{Signed}
+use Rattle.rules_lines.specs.Words.{at_scale}
 use Rattle.vrt_model.specs.declared.rules.AssumeRule.{AssumeRule}
 use Rattle.vrt_model.specs.declared.rules.ClockRef.{ClockRef}
 use Rattle.vrt_model.specs.declared.rules.ClockportRule.{ClockportRule}
@@ -47,7 +48,20 @@ told_on rules card = on_card (λ line. rules) card
 abbrev pub told : {X : Type 0} → (Entry → List X) → List Card → List X
 told rules cards = flat_map (told_on rules) cards
 
--- ---- clocks and phases
+-- ---- the scale, clocks and phases
+
+abbrev pub scales_in : Entry → List ℕ
+scales_in (ScaleLine scale) = scale ∷ []
+scales_in entry = []
+
+-- the scale behind `scale` lines of these scales
+abbrev pub scale_from : ℕ → List ℕ → ℕ
+scale_from scale [] = scale
+scale_from scale (s ∷ scales) = scale_from s scales
+
+-- the scale of lines, 8 where no line says it
+unfoldable pub scale_by : List Card → ℕ
+scale_by cards = scale_from 8 (told scales_in cards)
 
 abbrev pub clocks_in : Entry → List (List ℕ)
 clocks_in (ClockLine names) = names
@@ -92,13 +106,13 @@ abbrev pub supplies_in : ℕ → Entry → List SupplyRule
 supplies_in line (SupplyLine value nets) = map (supply_rule line value) nets
 supplies_in line entry = []
 
-abbrev pub devices_in : ℕ → Entry → List DeviceRule
-devices_in line (DeviceLine model kind level) = record { line = line; model = model; kind = kind; level = unwrap_or level 0 } ∷ []
-devices_in line entry = []
+abbrev pub devices_in : ℕ → ℕ → Entry → List DeviceRule
+devices_in scale line (DeviceLine model kind level) = record { line = line; model = model; kind = kind; level = unwrap_or (at_scale scale level) 0 } ∷ []
+devices_in scale line entry = []
 
-abbrev pub strengths_in : ℕ → Entry → List StrengthRule
-strengths_in line (StrengthLine cell device level) = record { line = line; cell = cell; device = device; level = unwrap_or level 0 } ∷ []
-strengths_in line entry = []
+abbrev pub strengths_in : ℕ → ℕ → Entry → List StrengthRule
+strengths_in scale line (StrengthLine cell device level) = record { line = line; cell = cell; device = device; level = unwrap_or (at_scale scale level) 0 } ∷ []
+strengths_in scale line entry = []
 
 abbrev pub clock_ref : List (List ℕ) → Signed → ClockRef
 clock_ref clocks s = record { clock = number_in clocks s.name; inverted = s.is_inverted }
@@ -119,9 +133,9 @@ abbrev pub ports_in : ℕ → Entry → List PortRule
 ports_in line (PortLine cell port signal) = record { line = line; cell = cell; port = port; signal = signal } ∷ []
 ports_in line entry = []
 
-abbrev pub holds_in : ℕ → Entry → List HoldRule
-holds_in line (HoldLine cell net size) = record { line = line; cell = cell; net = net; size = unwrap_or size 0 } ∷ []
-holds_in line entry = []
+abbrev pub holds_in : ℕ → ℕ → Entry → List HoldRule
+holds_in scale line (HoldLine cell net size) = record { line = line; cell = cell; net = net; size = unwrap_or (at_scale scale size) 0 } ∷ []
+holds_in scale line entry = []
 
 abbrev pub keeper_rule : ℕ → List ℕ → List ℕ → KeeperRule
 keeper_rule line cell device = record { line = line; cell = cell; device = device }
@@ -162,16 +176,17 @@ assumes_in phases line (AssumeLine cell phase tokens) =
     record { line = line; cell = cell; phase = option_map (number_in phases) phase; formula = unwrap_or (formula_of tokens) (a_port []) } ∷ []
 assumes_in phases line entry = []
 
--- the tables of lines but for clocks and phases, where these clocks and phases have numbers
+-- the tables of lines but for clocks and phases, where these clocks and phases have numbers; levels and sizes are those
+-- of the scale of the rules
 pub record AreTablesOf (clocks phases : List (List ℕ)) (cards : List Card) (rules : Rules) : Type 0 where
   pub supplies : rules.supplies ≡ table supplies_in cards
-  pub devices : rules.devices ≡ table devices_in cards
-  pub strengths : rules.strengths ≡ table strengths_in cards
+  pub devices : rules.devices ≡ table (devices_in rules.scale) cards
+  pub strengths : rules.strengths ≡ table (strengths_in rules.scale) cards
   pub clockports : rules.clockports ≡ table (clockports_in clocks) cards
   pub defaultclocks : rules.defaultclocks ≡ table (defaultclocks_in clocks) cards
   pub pairs : rules.pairs ≡ table pairs_in cards
   pub ports : rules.ports ≡ table ports_in cards
-  pub holds : rules.holds ≡ table holds_in cards
+  pub holds : rules.holds ≡ table (holds_in rules.scale) cards
   pub keepers : rules.keepers ≡ table keepers_in cards
   pub matches : rules.matches ≡ table matches_in cards
   pub instance_matches : rules.instance_matches ≡ table instance_matches_in cards
@@ -181,6 +196,7 @@ pub record AreTablesOf (clocks phases : List (List ℕ)) (cards : List Card) (ru
 
 -- The rules of lines. Numbers of phases are those of the `phase` lines, and 0 for `all` where there is none.
 pub record AreRulesOf (cards : List Card) (rules : Rules) : Type 0 where
+  pub scale_is : rules.scale ≡ scale_by cards
   pub clocks_are : rules.clocks ≡ clocks_of cards
   pub phases_are : rules.phases ≡ all_from (clocks_of cards) (table (phases_in (clocks_of cards)) cards)
   pub tables : AreTablesOf (clocks_of cards) (phase_names_of cards) cards rules

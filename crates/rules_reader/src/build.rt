@@ -13,9 +13,9 @@ use names::Names;
 use std::alloc::Global;
 use vrt_model::{NoMemory, Phase, Rules, Seq, Text};
 
-/// No rules but the clocks.
-fn empty(alloc: Global, clocks: Seq<Text>) -> Rules
-    ensures { result ≡ record { clocks = clocks; phases = []; supplies = []; devices = []; strengths = []; clockports = []; defaultclocks = []; pairs = []; ports = []; holds = []; keepers = []; matches = []; instance_matches = []; enters = []; observes = []; assumes = [] } }
+/// No rules but the clocks and the scale.
+fn empty(alloc: Global, clocks: Seq<Text>, scale: u8) -> Rules
+    ensures { result ≡ record { clocks = clocks; phases = []; supplies = []; devices = []; strengths = []; clockports = []; defaultclocks = []; pairs = []; ports = []; holds = []; keepers = []; matches = []; instance_matches = []; enters = []; observes = []; assumes = []; scale = scale } }
 {
     Rules {
         clocks,
@@ -34,6 +34,7 @@ fn empty(alloc: Global, clocks: Seq<Text>) -> Rules
         enters: Seq::new(alloc),
         observes: Seq::new(alloc),
         assumes: Seq::new(alloc),
+        scale,
     }
 }
 
@@ -64,8 +65,8 @@ fn tables(
     cards: &[Card],
 ) -> Result<(), NoMemory>
     requires clocks { clock_names.now ≡ known.now.clocks }
-    requires none { AreSoFar known.now.clocks known.now.phases known.now.clocks [] rules.old }
-    ensures { OnOk result (AreSoFar known.now.clocks known.now.phases known.now.clocks cards.now rules.new) }
+    requires none { AreSoFar known.now.clocks known.now.phases known.now.clocks known.now.scale [] rules.old }
+    ensures { OnOk result (AreSoFar known.now.clocks known.now.phases known.now.clocks known.now.scale cards.now rules.new) }
 {
     for card in cards {
         add_card(
@@ -109,7 +110,7 @@ fn add_all(alloc: Global, phases: &mut Seq<Phase>, clocks: &[Text]) -> Result<()
 /// Adds the rules of all lines, where there are none yet.
 fn fill(alloc: Global, known: &Known, rules: &mut Rules, cards: &[Card]) -> Result<(), NoMemory>
     requires known { known.now ≡ known_by cards.now }
-    requires none { AreSoFar known.now.clocks known.now.phases known.now.clocks [] rules.old }
+    requires none { AreSoFar known.now.clocks known.now.phases known.now.clocks known.now.scale [] rules.old }
     ensures { OnOk result (AreRulesOf cards.now rules.new) }
 {
     let names = known.clocks.to_texts(alloc)?;
@@ -124,7 +125,7 @@ pub fn build(alloc: Global, known: &Known, cards: &[Card]) -> Result<Rules, NoMe
     ensures { IfOk result (AreRulesOf cards.now) }
 {
     let clocks = known.clocks.to_texts(alloc)?;
-    let mut rules = empty(alloc, clocks);
+    let mut rules = empty(alloc, clocks, known.scale);
     fill(alloc, known, &mut rules, cards)?;
     Ok(rules)
 }

@@ -71,6 +71,7 @@ pub fn is_line_misplaced(alloc: Global, known: &Known, entry: &Entry) -> Result<
     ensures { IfOk result (λ b. b ≡ is_misplaced known.now entry.now) }
 {
     match entry {
+        Entry::ScaleLine { .. } => Ok(known.has_levels),
         Entry::ClockLine { .. } => Ok(!known.phases.is_empty()),
         Entry::PhaseLine { bits, .. } => is_phase_misplaced(alloc, known, bits.as_slice()),
         _ => Ok(false),
@@ -94,15 +95,15 @@ fn any_has_no_bit(bits: &[ClockBit]) -> bool
     false
 }
 
-/// Whether a level, a size or a bit is not one digit of its range.
-pub fn is_number_bad(entry: &Entry) -> bool
-    ensures { result ≡ has_bad_number entry.now }
+/// Whether a level or a size is not of its range and form at this scale, or a bit is neither 0 nor 1.
+pub fn is_number_bad(scale: u8, entry: &Entry) -> bool
+    ensures { result ≡ has_bad_number scale entry.now }
 {
     match entry {
-        Entry::DeviceLine { level, .. } => level.is_none(),
-        Entry::StrengthLine { level, .. } => level.is_none(),
+        Entry::DeviceLine { level, .. } => level.at(scale).is_none(),
+        Entry::StrengthLine { level, .. } => level.at(scale).is_none(),
         Entry::PhaseLine { bits, .. } => any_has_no_bit(bits.as_slice()),
-        Entry::HoldLine { size, .. } => size.is_none(),
+        Entry::HoldLine { size, .. } => size.at(scale).is_none(),
         Entry::EnterLine { bit, .. } => bit.is_none(),
         _ => false,
     }

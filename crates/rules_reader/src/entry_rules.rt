@@ -29,13 +29,17 @@ fn add_on_devices(
             add_supplies(alloc, &mut rules.supplies, line, *value, nets)
         }
         Entry::DeviceLine { model, kind, level } => {
-            add_device(alloc, &mut rules.devices, line, model, *kind, *level)
+            let level = level.at(rules.scale);
+            add_device(alloc, &mut rules.devices, line, model, *kind, level)
         }
         Entry::StrengthLine {
             cell,
             device,
             level,
-        } => add_strength(alloc, &mut rules.strengths, line, cell, device, *level),
+        } => {
+            let level = level.at(rules.scale);
+            add_strength(alloc, &mut rules.strengths, line, cell, device, level)
+        }
         Entry::KeeperLine { cell, devices } => {
             add_keepers(alloc, &mut rules.keepers, line, cell, devices)
         }
@@ -53,7 +57,8 @@ fn add_on_cells(alloc: Global, rules: &mut Rules, line: u32, entry: &Entry) -> R
             add_port(alloc, &mut rules.ports, line, cell, port, signal)
         }
         Entry::HoldLine { cell, net, size } => {
-            add_hold(alloc, &mut rules.holds, line, cell, net, *size)
+            let size = size.at(rules.scale);
+            add_hold(alloc, &mut rules.holds, line, cell, net, size)
         }
         _ => Ok(()),
     }
@@ -172,6 +177,7 @@ pub fn add_entry(
     ensures { OnOk result (Adds clocks.now phases.now line (Some entry.now) rules.old rules.new) }
 {
     match entry {
+        Entry::ScaleLine { .. } => Ok(()),
         Entry::ClockLine { .. } => Ok(()),
         Entry::SupplyLine { .. }
         | Entry::DeviceLine { .. }

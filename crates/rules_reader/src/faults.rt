@@ -12,10 +12,10 @@ use vrt_model::Text;
 pub enum RulesFault {
     /// A byte of the line that is neither a tab nor from the space to the tilde.
     NotText { line: u32 },
-    /// An unknown first word, a wrong number of words, a value that is none of those listed, or a `clock` or `phase`
-    /// line that comes too late, or a `phase` line that leaves a clock without a bit.
+    /// An unknown first word, a wrong number of words, a value that is none of those listed, or a `scale`, `clock` or
+    /// `phase` line that comes too late, or a `phase` line that leaves a clock without a bit.
     Word { line: u32 },
-    /// A level, a size or a bit that is not one digit of its range.
+    /// A level or a size that is not of its range and form at the scale, or a bit that is neither 0 nor 1.
     Number { line: u32 },
     /// An expression of another form.
     Expr { line: u32 },

@@ -5,8 +5,8 @@ ghost use Rattle.vrt_model.specs.Lists.{is_empty};
 ghost use Rattle.names.specs.Names.{with_names};
 ghost use Rattle.text_lines.specs.Faults.{Judges};
 ghost use Rattle.rules_reader.specs.Learned.{learned, learned_by};
-ghost use Rattle.rules_reader.specs.Refused.{entry_fault, fault_by, phases_named};
-ghost use Rattle.rules_reader.specs.Tables.{clocks_in, phase_names_in};
+ghost use Rattle.rules_reader.specs.Refused.{entry_fault, fault_by, levels_on, phases_named};
+ghost use Rattle.rules_reader.specs.Tables.{clocks_in, phase_names_in, scale_from, scales_in};
 
 use crate::cards::Card;
 use crate::conditions::{
@@ -79,6 +79,28 @@ fn names_phase(entry: &Entry) -> bool
     }
 }
 
+/// The scale behind a line.
+fn scale_behind(scale: u8, entry: &Entry) -> u8
+    ensures { result ≡ scale_from scale (scales_in entry.now) }
+{
+    match entry {
+        Entry::ScaleLine { scale } => *scale,
+        _ => scale,
+    }
+}
+
+/// Whether a line has a level or a size.
+fn has_level(entry: &Entry) -> bool
+    ensures { result ≡ not (is_empty (levels_on entry.now)) }
+{
+    match entry {
+        Entry::DeviceLine { .. } => true,
+        Entry::StrengthLine { .. } => true,
+        Entry::HoldLine { .. } => true,
+        _ => false,
+    }
+}
+
 /// Judges what a line says, and learns it if it has no fault. Of several faults it answers the one of the lowest
 /// number.
 #[tactic(auto, unfolding(crate::specs::Refused::entry_fault))]
@@ -98,7 +120,7 @@ fn judge_entry(
     if misplaced {
         return Err(RulesFault::Word { line });
     }
-    if is_number_bad(entry) {
+    if is_number_bad(known.scale, entry) {
         return Err(RulesFault::Number { line });
     }
     if is_expression_bad(entry) {
@@ -132,6 +154,8 @@ fn judge_entry(
         return Err(RulesFault::NoMemory);
     }
     known.is_phase_named = known.is_phase_named || names_phase(entry);
+    known.scale = scale_behind(known.scale, entry);
+    known.has_levels = known.has_levels || has_level(entry);
     Ok(())
 }
 

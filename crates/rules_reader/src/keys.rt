@@ -206,11 +206,20 @@ fn claim_defaultclock(alloc: Global, keys: &mut Names) -> Result<Option<Text>, N
     claim_word(alloc, keys, b"".as_slice(), &word)
 }
 
+/// The key of a `scale` line.
+fn claim_scale(alloc: Global, keys: &mut Names) -> Result<Option<Text>, NoMemory>
+    ensures { IfOk result (Claims (key [] (codes "scale") ∷ []) keys.old keys.new) }
+{
+    let word = Text::from_bytes(alloc, b"scale".as_slice())?;
+    claim_word(alloc, keys, b"".as_slice(), &word)
+}
+
 /// Adds the keys of a line, up to the first that is there, whose last word is answered.
 pub fn claim_keys(alloc: Global, keys: &mut Names, entry: &Entry) -> Result<Option<Text>, NoMemory>
     ensures { IfOk result (Claims (keys_of entry.now) keys.old keys.new) }
 {
     match entry {
+        Entry::ScaleLine { .. } => claim_scale(alloc, keys),
         Entry::SupplyLine { nets, .. } => { claim_words(alloc, keys, b"supply ".as_slice(), nets) }
         Entry::DeviceLine { model, .. } => { claim_word(alloc, keys, b"device ".as_slice(), model) }
         Entry::StrengthLine { cell, device, .. } => claim_strength(alloc, keys, cell, device),

@@ -2,7 +2,8 @@
 
 use names::Names;
 
-/// The clocks and phases so far, the keys so far, and whether a line names a phase.
+/// The clocks and phases so far, the keys so far, whether a line names a phase, the scale so far, and whether a line has
+/// a level or a size.
 pub struct Known {
     /// The clocks so far, by their numbers.
     pub clocks: Names,
@@ -12,6 +13,10 @@ pub struct Known {
     pub keys: Names,
     /// Whether a line so far names a phase, so that none may be declared any more.
     pub is_phase_named: bool,
+    /// The scale that levels and sizes have here, 8 where no line so far says one.
+    pub scale: u8,
+    /// Whether a line so far has a level or a size, so that no line may say the scale any more.
+    pub has_levels: bool,
 }
 
 /// By hand, so that letting go of one is a call.
@@ -22,6 +27,8 @@ impl Drop for Known {
             phases: _phases,
             keys: _keys,
             is_phase_named: _is_phase_named,
+            scale: _scale,
+            has_levels: _has_levels,
         } = self;
     }
 }

@@ -31,6 +31,8 @@ pub fn read_rules(alloc: Global, text: &[u8]) -> Result<Rules, RulesFault>
         phases: Names::new(alloc),
         keys: Names::new(alloc),
         is_phase_named: false,
+        scale: 8,
+        has_levels: false,
     };
     let mut cards = Seq::new(alloc);
     read_cards(alloc, text, &mut known, &mut cards)?;

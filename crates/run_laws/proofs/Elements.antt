@@ -1,19 +1,12 @@
 -- The elements of the latches of a model are numbered below the count of their names.
-use Rattle.std.proofs.Common.{◌≡◌, ℕ, zero, suc, ◌+◌, ◌≤◌, List, [], ◌∷◌, length, length-append, arith, refl, subst}
+use Rattle.std.proofs.Common.{◌≡◌, ℕ, zero, suc, ◌+◌, ◌≤◌, List, [], ◌∷◌, length, length-append, arith, subst}
 use Rattle.std.specs.Prelude.{flat_map}
 use Rattle.std.proofs.lemmas.Option.{none-some, same_Some}
+use Rattle.vrt_model.proofs.ElementCounts.{names_count}
 use Rattle.vrt_model.specs.Elements.{Numbered, element_count, element_names, names_by_kind, numbered_from, numbered_latches, signal_name}
 use Rattle.vrt_model.specs.Lists.{Among, At}
-use Rattle.vrt_model.specs.declared.blif.LatchKind.{LatchKind}
-use Rattle.vrt_model.specs.declared.blif.LatchKind.TheVariants.{Re, Fe, Ah, Al}
 use Rattle.vrt_model.specs.declared.flat_model.FlatLatch.{FlatLatch}
 use Rattle.vrt_model.specs.declared.flat_model.FlatModel.{FlatModel}
-
-names_count : (kind : LatchKind) (name : List ℕ) → length (names_by_kind kind name) ≡ element_count kind
-names_count Re name = refl
-names_count Fe name = refl
-names_count Ah name = refl
-names_count Al name = refl
 
 abbrev names_of : FlatModel → List FlatLatch → List (List ℕ)
 names_of flat latches = flat_map (λ (l : FlatLatch). names_by_kind l.kind (signal_name flat l.output)) latches

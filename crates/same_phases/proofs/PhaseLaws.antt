@@ -14,6 +14,7 @@ use Rattle.vrt_model.proofs.Tests.{some_of}
 use Rattle.vrt_model.specs.CellRules.{is_constrained, is_observed_port}
 use Rattle.vrt_model.specs.Comparison.{CellPort, Comparison, cell_at, is_observed, output_signal, phase_at, ports_of}
 use Rattle.vrt_model.specs.Constraints.{given_bit}
+use Rattle.vrt_model.specs.Levels.{source_level}
 use Rattle.vrt_model.specs.Lists.{Among, At}
 use Rattle.vrt_model.specs.Path.{Network}
 use Rattle.vrt_model.specs.Reading.{HasGivenBit, IsReading, Partial, bare, devices_of, is_given}
@@ -97,7 +98,7 @@ module _ (c : Circuit) (s : Setting) (free : IsUnclocked c) (p q : Phase) (first
   view = network_of c bare s.held here
 
   response_at : (n : ℕ) → (r : Response) × IsResponse view n r
-  response_at n = some_response view (length c.nets) 8 (network_finite c bare s.held here free.ranges) n
+  response_at n = some_response view (length c.nets) (source_level c) (network_finite c bare s.held here free.ranges) n
 
   -- what each net shows there
   pub carried : Partial

@@ -9,7 +9,9 @@ use Rattle.vrt_model.proofs.Laws.{one_strength, shows_from}
 use Rattle.vrt_model.proofs.Members.{all_among}
 use Rattle.vrt_model.proofs.Networks.{given_source, network_levels}
 use Rattle.vrt_model.proofs.SameNetwork.{IsPartOf, response_same}
+use Rattle.vrt_model.proofs.Scales.{least_below}
 use Rattle.vrt_model.specs.Circuits.{IsHold}
+use Rattle.vrt_model.specs.Levels.{source_level}
 use Rattle.vrt_model.specs.Lists.{Among, At}
 use Rattle.vrt_model.specs.Networks.{HasLevels, IsSource}
 use Rattle.vrt_model.specs.Path.{Hop, IsPath, IsRoot, Network, Root, end_of}
@@ -64,12 +66,12 @@ module _ (c : Circuit) (inputs held : ℕ → Bool) (free : IsUnclocked c) where
     levels = network_levels c bare held s free.ranges
 
     -- a root of the source level at a given net has the net's bit
-    root_value : (n : ℕ) → (root : Root) → IsRoot view root → root.net ≡ n → root.level ≡ 8 → root.value ≡ s.reading n
+    root_value : (n : ℕ) → (root : Root) → IsRoot view root → root.net ≡ n → root.level ≡ source_level c → root.value ≡ s.reading n
     root_value n root r e top =
         elim r [
           | inl h ↦ h.4 ∙ ap s.reading e
           | inr other ↦ elim other [
-            | inl h ↦ absurd (let same = h.4 in let le = (all_among (IsHold c) c.holds h.1 free.ranges.holds (h.0, h.2)).size.1 in omega (arith, top, same, le))
+            | inl h ↦ absurd (let same = h.4 in let le = (all_among (IsHold c) c.holds h.1 free.ranges.holds (h.0, h.2)).size.1 in let below = least_below c in omega (arith, top, same, le, below))
             | inr o ↦ absurd (no_output s o.0 o.1 o.2)
           ]
         ]
@@ -82,7 +84,7 @@ module _ (c : Circuit) (inputs held : ℕ → Bool) (free : IsUnclocked c) where
         source m e = subst (IsSource view) (sym e) (given_source c bare held s free.ranges n g.0 g.1 g.2)
 
         here : Reaches view n (s.reading n)
-        here = (record { net = n; level = 8; value = s.reading n }, [], inl (g.0, g.1, g.2, refl, refl), source_strength view levels n (source n refl), refl, refl)
+        here = (record { net = n; level = source_level c; value = s.reading n }, [], inl (g.0, g.1, g.2, refl, refl), source_strength view levels n (source n refl), refl, refl)
 
         only : (u : Bool) → Reaches view n u → u ≡ s.reading n
         only u (root, hops, p, clear, e, is) =
@@ -90,7 +92,7 @@ module _ (c : Circuit) (inputs held : ℕ → Bool) (free : IsUnclocked c) where
             let path : IsPath view root [] = subst (IsPath view root) none p in
             let strong : IsClear view root [] = subst (IsClear view root) none clear in
             let ends : root.net ≡ n = subst (λ (hs : List Hop). end_of root hs ≡ n) none e in
-            sym is ∙ root_value n root path ends (one_strength view root.net root.level 8 strong (source_strength view levels root.net (source root.net ends)))
+            sym is ∙ root_value n root path ends (one_strength view root.net root.level (source_level c) strong (source_strength view levels root.net (source root.net ends)))
 
   -- ---- gates
 

@@ -157,14 +157,14 @@ module _ (cut : Cut) (i : ℕ) (p : NumberedPlace) (design : IsDesign cut.top.de
   module _ (size : ℕ) where
     -- counts without its channels
     pub counts_without : (old new : List ℕ) → AreCountsOf cut size old → length new ≡ length old
-        → AreChanged false (λ n k. length (channels_of (4 + k) (devices_gone cut.top i) n)) old new → AreCountsOf (with_one cut i) size new
+        → AreChanged false (λ n k. length (channels_of k (devices_gone cut.top i) n)) old new → AreCountsOf (with_one cut i) size new
     counts_without old new are each fewer = record { each = each ∙ are.each; are = by_net }
       where
         by_net : AreCounts size (checked_devices (with_one cut i)) new
         by_net n k lt low =
             let long = are.each in
             let was = are.are n k lt low in
-            let sum = gone_is n (4 + k) in
+            let sum = gone_is n k in
             let now = fewer n k low (omega (arith, long, lt, low)) in
             omega (arith, was, sum, now)
 
@@ -178,6 +178,6 @@ module _ (cut : Cut) (i : ℕ) (p : NumberedPlace) (design : IsDesign cut.top.de
         by_net n k lt low =
             let long = are.each in
             let was = are.are n k lt low in
-            let sum = gone_is n (4 + k) in
+            let sum = gone_is n k in
             let now = is n k low (omega (arith, long, lt, low)) in
             omega (arith, was, sum, now)

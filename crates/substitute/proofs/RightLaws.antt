@@ -4,6 +4,7 @@ use Rattle.std.specs.Prelude.{◌↔◌}
 use Rattle.std.proofs.lemmas.Bool.{false≢true}
 use Rattle.checked_chain.specs.Arcs.{AreWholeOutputsApart}
 use Rattle.replaced_instances.specs.Steps.{IsAllowedInstance}
+use Rattle.whole_cells.specs.Entries.{IsAllowed}
 use Rattle.whole_circuits.proofs.StepLaws.{held_from, held_to, may_be_whole, plain_from, plain_to}
 use Rattle.whole_circuits.specs.Acyclic.{AreAcyclic}
 use Rattle.whole_circuits.specs.Outputs.{AreOpen, own_outputs}
@@ -31,7 +32,7 @@ module _ (cut : Cut) (blif : Blif) (facts : List CellFacts) (i : ℕ) (p : Numbe
 
 -- an instance that may be chosen is allowed
 pub allowed_of : (asked : Bool) (cut : Cut) (blif : Blif) (facts : List CellFacts) (i : ℕ) (p : NumberedPlace) (m : ℕ) → MayBeChosen asked cut blif facts i p m → IsAllowedInstance cut blif facts i p m
-allowed_of true cut blif facts i p m may = record { paired = may.paired; cell = may.cell; plain = may.plain; allowed = may.allowed }
+allowed_of true cut blif facts i p m may = record { paired = may.paired; cell = may.cell; cared = may.cared; plain = may.plain; allowed = may.allowed }
 allowed_of false cut blif facts i p m may = may
 
 pub inside_is_left_out : InsideIsLeftOut
@@ -41,7 +42,7 @@ inside_is_left_out asked cut blif facts i p place inside =
 pub refused_is_left_out : RefusedIsLeftOut
 refused_is_left_out asked cut blif facts i p place refused =
     at_place cut blif facts i p place asked false
-    (λ e. absurd (false≢true e), λ right. (let may = allowed_of asked cut blif facts i p right.1.0 right.1.1 in absurd (refused right.1.0 may.paired may.cell)))
+    (λ e. absurd (false≢true e), λ right. (let may = allowed_of asked cut blif facts i p right.1.0 right.1.1 in absurd (refused right.1.0 may.paired (may.cell, may.cared))))
 
 module _ (cut : Cut) (blif : Blif) (facts : List CellFacts) (i : ℕ) (p : NumberedPlace) (m : ℕ) (flat : Circuit) (is : IsNext cut blif i p m flat) where
   model_is : (n : ℕ) → paired_model cut.top.design blif cut.top.rules p.at.cell ≡ Model n → n ≡ m
@@ -72,10 +73,11 @@ module _ (cut : Cut) (blif : Blif) (facts : List CellFacts) (i : ℕ) (p : Numbe
       (λ e. absurd (false≢true e), λ right. absurd (shut (open_of (with_model right.1.0 (allowed_of asked cut blif facts i p right.1.0 right.1.1)))))
 
   -- with open outputs it is allowed
-  pub allowed : is_cell_allowed cut.top facts (comparison_of cut.top.design blif cut.top.rules p.at.cell m) ≡ true → AreItsOutputsOpen cut blif facts i p m flat → IsAllowedInstance cut blif facts i p m
+  pub allowed : IsAllowed cut.top blif facts p.at.cell m → AreItsOutputsOpen cut blif facts i p m flat → IsAllowedInstance cut blif facts i p m
   allowed cell outputs = record {
     paired = is.paired;
-    cell = cell;
+    cell = cell.0;
+    cared = cell.1;
     plain = λ o on.
         (let free = outputs.plain o (subst (λ (os : List OutputAt). Among os o) own_is on) in
         (plain_from (with_one cut i) blif facts flat is.flat_is o.pin.net.0 free.0, λ held. free.1 (held_to (with_one cut i) blif facts flat is.flat_is o.pin.net.0 held)));
@@ -91,7 +93,7 @@ module _ (cut : Cut) (blif : Blif) (facts : List CellFacts) (i : ℕ) (p : Numbe
   OpenIn low = AreOpen flat (checked_devices (with_one low i)) (all_outputs low blif facts ++ own) own
 
   module _ (circuit : Circuit) (free : Bool) (rules : AreRules cut.top.rules) (outside : is_inside_whole cut p.at ≡ false)
-      (cell : is_cell_allowed cut.top facts (comparison_of cut.top.design blif cut.top.rules p.at.cell m) ≡ true) (outputs : AreItsOutputsOpen cut blif facts i p m flat)
+      (cell : IsAllowed cut.top blif facts p.at.cell m) (outputs : AreItsOutputsOpen cut blif facts i p m flat)
       (flat_acyclic : AreAcyclic flat cut.top.rules.phases) (made : IsCircuitWith (with_one cut i) blif facts circuit) (apart : AreWholeOutputsApart (with_one cut i) blif)
       (tells : (free ≡ true) ↔ AreAcyclic circuit cut.top.rules.phases) where
     tests : Passes cut blif facts i p m flat circuit ↔ MayBeWhole (before cut i) blif facts i p m
@@ -107,7 +109,7 @@ module _ (cut : Cut) (blif : Blif) (facts : List CellFacts) (i : ℕ) (p : Numbe
             (
               m,
               subst (λ (low : Cut). MayBeWhole low blif facts i p m) front
-                  (tests.0 (record { cell = cell; outputs = subst OpenIn (sym front) outputs; acyclic = tells.0 e; flat_acyclic = flat_acyclic })),
+                  (tests.0 (record { cell = cell.0; cared = cell.1; outputs = subst OpenIn (sym front) outputs; acyclic = tells.0 e; flat_acyclic = flat_acyclic })),
             ),
           ),
           λ r. tells.1 (tests.1 (subst (λ (low : Cut). MayBeWhole low blif facts i p m) (sym front) (subst (λ (j : ℕ). MayBeWhole cut blif facts i p j) (model_is r.1.0 r.1.1.paired) r.1.1))).acyclic,

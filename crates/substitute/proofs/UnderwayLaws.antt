@@ -360,7 +360,7 @@ module _ (asked : Bool) (t : Top) (blif : Blif) (facts : List CellFacts) (tables
     p_outside = outside p.at (numbered_at t (suc i) p numbered_here.1).1
 
     pub without : (new : List ℕ) → length new ≡ length chosen.nets.channels.items
-        → AreChanged false (λ n k. length (channels_of (4 + k) (devices_gone t i) n)) chosen.nets.channels.items new → AreCountsOf one (length tables.flat.now.nets) new
+        → AreChanged false (λ n k. length (channels_of k (devices_gone t i) n)) chosen.nets.channels.items new → AreCountsOf one (length tables.flat.now.nets) new
     without new each fewer =
         counts_without old i p are.ground.netlist.design has.chosen_are.none numbered_here.1 p_outside (length tables.flat.now.nets) chosen.nets.channels.items new has.chosen_are.counted each fewer
 
@@ -427,7 +427,7 @@ module _ (asked : Bool) (t : Top) (blif : Blif) (facts : List CellFacts) (tables
         chosen_one asked t blif facts tables i chosen own has_entry marks more_here pins inside held taken counts each right pins_same inside_same held_same room taken_more counted
 
   pub trial_without : (new : List ℕ) → length new ≡ length chosen.nets.channels.items
-      → AreChanged false (λ n k. length (channels_of (4 + k) (devices_gone t i) n)) chosen.nets.channels.items new → AreCountsOf (with_one (cut_of t chosen.whole.items) i) (length tables.flat.now.nets) new
+      → AreChanged false (λ n k. length (channels_of k (devices_gone t i) n)) chosen.nets.channels.items new → AreCountsOf (with_one (cut_of t chosen.whole.items) i) (length tables.flat.now.nets) new
   trial_without = without asked t blif facts tables i chosen own has_entry trial.is.outside
 
   pub trial_settled : (right : Bool) (less new : List ℕ) → AreCountsOf (with_one (cut_of t chosen.whole.items) i) (length tables.flat.now.nets) less → length new ≡ length less
@@ -454,7 +454,7 @@ module _ (asked : Bool) (t : Top) (blif : Blif) (facts : List CellFacts) (tables
   none_whole n (suc j) = none_marked n (suc j)
 
   pub none_chosen : (whole inside held : List Bool) (taken : List Taken) (counts : List ℕ) → whole ≡ nowhere (length tables.unrolled.now.places) → inside ≡ nowhere 1 → AreHeldMarks tables.flat.now held
-      → taken ≡ replicate (length tables.flat.now.nets) Free → length counts ≡ 4 * length tables.flat.now.nets → AreCounts (length tables.flat.now.nets) tables.flat.now.devices counts
+      → taken ≡ replicate (length tables.flat.now.nets) Free → length counts ≡ 16 * length tables.flat.now.nets → AreCounts (length tables.flat.now.nets) tables.flat.now.devices counts
       → AreChosenBy asked t blif facts tables 0 1 whole inside held taken counts
   none_chosen whole inside held taken counts whole_is inside_is held_are taken_is each counts_are =
       let n = length tables.unrolled.now.places in

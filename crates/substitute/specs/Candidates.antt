@@ -4,12 +4,13 @@ use Rattle.checked_chain.specs.Arcs.{AreWholeOutputsApart}
 use Rattle.formed_cells.specs.Formed.{AreRead}
 use Rattle.known_nets.specs.Incidence.{AreHeldMarks}
 use Rattle.replaced_instances.specs.Steps.{IsSoundNetlist}
+use Rattle.whole_cells.specs.Entries.{IsAllowed}
 use Rattle.whole_circuits.specs.Acyclic.{AreAcyclic}
 use Rattle.whole_circuits.specs.Counts.{AreCounts}
 use Rattle.whole_circuits.specs.Taken.{AreTaken}
 use Rattle.whole_circuits.specs.declared.marks.Marks.{Marks}
 use Rattle.whole_circuits.specs.declared.outputs.NetMarks.{NetMarks}
-use Rattle.vrt_model.specs.Checked.{is_cell_allowed, with_one}
+use Rattle.vrt_model.specs.Checked.{with_one}
 use Rattle.vrt_model.specs.CheckedParts.{checked_devices}
 use Rattle.vrt_model.specs.Circuits.{IsCircuit}
 use Rattle.vrt_model.specs.Cut.{Cut, NumberedPlace, is_inside_whole}
@@ -44,7 +45,7 @@ pub record IsCandidate (asked : Bool) (cut : Cut) (blif : Blif) (facts : List Ce
   pub next : IsNext cut blif i p m tables.flat.now
   pub decided : AreRightly asked cut blif facts (suc i)
   pub outside : is_inside_whole cut p.at ≡ false
-  pub cell : is_cell_allowed cut.top facts (comparison_of cut.top.design blif cut.top.rules p.at.cell m) ≡ true
+  pub cell : IsAllowed cut.top blif facts p.at.cell m
   pub by : (own : Marks) → AreMarksBeside tables.unrolled.now whole at own → IsTriedBy (with_one cut i) blif facts tables own
   pub apart : AreWholeOutputsApart (with_one cut i) blif
   pub held : AreHeldMarks tables.flat.now nets.held.items

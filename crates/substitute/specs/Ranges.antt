@@ -27,8 +27,8 @@ pub record IsEnd (t : Top) (i e : ℕ) : Type 0 where
 -- the counts with those of some devices again, unless these stay out
 abbrev pub AreSettled : Bool → List Device → List ℕ → List ℕ → Type 0
 AreSettled out devices old new =
-    (n k : ℕ) → k < 4 → 4 * n + k < length old
-    → slice_index new (4 * n + k) ≡ cond out (slice_index old (4 * n + k)) (changed true (slice_index old (4 * n + k)) (length (channels_of (4 + k) devices n)))
+    (n k : ℕ) → k < 16 → 16 * n + k < length old
+    → slice_index new (16 * n + k) ≡ cond out (slice_index old (16 * n + k)) (changed true (slice_index old (16 * n + k)) (length (channels_of k devices n)))
 
 -- an instance is whole too, where it is chosen
 abbrev pub with_chosen : Bool → Cut → ℕ → Cut

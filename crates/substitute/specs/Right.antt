@@ -1,9 +1,10 @@
 -- When an instance is rightly chosen or left out.
 use Rattle.std.specs.Prelude.{◌≡◌, ◌↔◌, ℕ, suc, Bool, true, false, List, ◌++◌}
 use Rattle.checked_chain.specs.Arcs.{AreWholeOutputsApart}
+use Rattle.whole_cells.specs.Entries.{IsAllowed}
 use Rattle.whole_circuits.specs.Acyclic.{AreAcyclic}
 use Rattle.whole_circuits.specs.Outputs.{AreOpen, own_outputs}
-use Rattle.vrt_model.specs.Checked.{IsCircuitWith, is_cell_allowed, with_one}
+use Rattle.vrt_model.specs.Checked.{IsCircuitWith, with_one}
 use Rattle.vrt_model.specs.CheckedParts.{checked_devices}
 use Rattle.vrt_model.specs.Cut.{Cut, NumberedPlace, is_inside_whole, numbered_places}
 use Rattle.vrt_model.specs.FlatCircuit.{flat_circuit_of}
@@ -42,8 +43,7 @@ abbrev pub RefusedIsLeftOut : Type 0
 RefusedIsLeftOut =
     (asked : Bool) (cut : Cut) (blif : Blif) (facts : List CellFacts) (i : ℕ) (p : NumberedPlace)
     → At (numbered_places cut.top) (suc i) p
-    → ((m : ℕ) → paired_model cut.top.design blif cut.top.rules p.at.cell ≡ Model m
-    → ¬ (is_cell_allowed cut.top facts (comparison_of cut.top.design blif cut.top.rules p.at.cell m) ≡ true))
+    → ((m : ℕ) → paired_model cut.top.design blif cut.top.rules p.at.cell ≡ Model m → ¬ IsAllowed cut.top blif facts p.at.cell m)
     → IsRightly asked cut blif facts i false
 
 -- The law: so is one whose outputs are not open.
@@ -57,7 +57,7 @@ abbrev pub OpenIsChosen : Type 0
 OpenIsChosen =
     (cut : Cut) (blif : Blif) (facts : List CellFacts) (i : ℕ) (p : NumberedPlace) (m : ℕ) (flat : Circuit)
     → IsNext cut blif i p m flat → is_inside_whole cut p.at ≡ false
-    → is_cell_allowed cut.top facts (comparison_of cut.top.design blif cut.top.rules p.at.cell m) ≡ true
+    → IsAllowed cut.top blif facts p.at.cell m
     → AreItsOutputsOpen cut blif facts i p m flat → IsRightly false cut blif facts i true
 
 -- The law: where they are asked for, it is so exactly where the circuit with it has no cycle, if the flat circuit has none.
@@ -65,7 +65,7 @@ abbrev pub AcyclicIsChosen : Type 0
 AcyclicIsChosen =
     (cut : Cut) (blif : Blif) (facts : List CellFacts) (i : ℕ) (p : NumberedPlace) (m : ℕ) (flat circuit : Circuit) (free : Bool)
     → IsNext cut blif i p m flat → AreRules cut.top.rules → is_inside_whole cut p.at ≡ false
-    → is_cell_allowed cut.top facts (comparison_of cut.top.design blif cut.top.rules p.at.cell m) ≡ true
+    → IsAllowed cut.top blif facts p.at.cell m
     → AreItsOutputsOpen cut blif facts i p m flat → AreAcyclic flat cut.top.rules.phases
     → IsCircuitWith (with_one cut i) blif facts circuit → AreWholeOutputsApart (with_one cut i) blif
     → (free ≡ true) ↔ AreAcyclic circuit cut.top.rules.phases → IsRightly true cut blif facts i free

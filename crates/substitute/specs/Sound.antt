@@ -1,8 +1,9 @@
 -- An instance that is tried besides those that are decided.
 use Rattle.std.specs.Prelude.{◌≡◌, ℕ, suc, Bool, true, false, List, ◌++◌}
 use Rattle.replaced_instances.specs.Steps.{AreAllowed}
+use Rattle.whole_cells.specs.Entries.{IsAllowed}
 use Rattle.whole_circuits.specs.Outputs.{AreOpen, own_outputs}
-use Rattle.vrt_model.specs.Checked.{is_cell_allowed, with_one}
+use Rattle.vrt_model.specs.Checked.{with_one}
 use Rattle.vrt_model.specs.CheckedParts.{checked_devices}
 use Rattle.vrt_model.specs.Cut.{Cut, NumberedPlace, is_inside_whole, numbered_places}
 use Rattle.vrt_model.specs.FlatCircuit.{flat_circuit_of}
@@ -23,7 +24,7 @@ pub record IsOpenBeside (asked : Bool) (cut : Cut) (blif : Blif) (facts : List C
   pub place : At (numbered_places cut.top) (suc i) p
   pub paired : paired_model cut.top.design blif cut.top.rules p.at.cell ≡ Model m
   pub outside : is_inside_whole cut p.at ≡ false
-  pub cell : is_cell_allowed cut.top facts (comparison_of cut.top.design blif cut.top.rules p.at.cell m) ≡ true
+  pub cell : IsAllowed cut.top blif facts p.at.cell m
   pub flat_is : flat ≡ flat_circuit_of cut.top
   pub outputs :
       AreOpen flat (checked_devices (with_one cut i))

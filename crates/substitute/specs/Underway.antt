@@ -36,7 +36,7 @@ pub record AreTables (t : Top) (blif : Blif) (facts : List CellFacts) (tables : 
 
 -- so many nets have counts of the channels that are not inside the whole instances of a cut
 pub record AreCountsOf (cut : Cut) (count : ℕ) (counts : List ℕ) : Type 0 where
-  pub each : length counts ≡ 4 * count
+  pub each : length counts ≡ 16 * count
   pub are : AreCounts count (checked_devices cut) counts
 
 -- the instances before a number are rightly chosen or not, and none is chosen from there on; the marks are at their places, at those inside them

@@ -59,7 +59,7 @@ fn bare_nets(alloc: Global, tables: Tables<'_>) -> Result<NetMarks, NoMemory>
     requires { IsWired tables.flat.now }
     ensures held { IfOk result (λ nets. AreHeldMarks tables.entry.flat.now nets.held.items) }
     ensures taken { IfOk result (λ nets. nets.taken.items ≡ replicate (length tables.entry.flat.now.nets) FreeNet) }
-    ensures each { IfOk result (λ nets. length nets.channels.items ≡ 4 * length tables.entry.flat.now.nets) }
+    ensures each { IfOk result (λ nets. length nets.channels.items ≡ 16 * length tables.entry.flat.now.nets) }
     ensures counts { IfOk result (λ nets. AreCounts (length tables.entry.flat.now.nets) tables.entry.flat.now.devices nets.channels.items) }
 {
     let count = tables.flat.nets.len();

@@ -107,7 +107,7 @@ trial_of cut blif facts h = record {
   tried = λ i p place chosen.
       (let there = (h.tried i p place).0 chosen in
       let may : MayBeWhole (before cut i) blif facts i p there.1.0 = there.1.1 in
-      (there.0, (there.1.0, record { paired = may.paired; cell = may.cell; plain = may.plain; allowed = may.allowed })));
+      (there.0, (there.1.0, record { paired = may.paired; cell = may.cell; cared = may.cared; plain = may.plain; allowed = may.allowed })));
 }
 
 pub soft_is_trial : (cut : Cut) (blif : Blif) (facts : List CellFacts) → IsSoftTrial cut blif facts → IsTrial cut blif facts

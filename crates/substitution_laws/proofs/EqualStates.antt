@@ -15,6 +15,7 @@ use Rattle.known_nets.specs.Wired.{IsWired}
 use Rattle.replaced_cells.proofs.States.{with_given, with_given_agrees, with_given_reads}
 use Rattle.vrt_model.proofs.Filtered.{device_among}
 use Rattle.vrt_model.proofs.Members.{all_among, at_none}
+use Rattle.vrt_model.proofs.Scales.{least_below}
 use Rattle.vrt_model.specs.Circuits.{IsDevice}
 use Rattle.vrt_model.specs.Comparison.{Comparison, is_observed, phase_at}
 use Rattle.vrt_model.specs.Equal.{Agree, IsPhaseEqual}
@@ -22,7 +23,7 @@ use Rattle.vrt_model.specs.Facts.{HasLevel}
 use Rattle.vrt_model.specs.Faults.{Solves}
 use Rattle.vrt_model.specs.Held.{setting_of}
 use Rattle.vrt_model.specs.Known.{IsPlain, IsUnknown}
-use Rattle.vrt_model.specs.Levels.{IsDeviceLevel}
+use Rattle.vrt_model.specs.Levels.{IsDeviceLevel, least_level, source_level}
 use Rattle.vrt_model.specs.Lists.{Among, At}
 use Rattle.vrt_model.specs.Networks.{HasRanges}
 use Rattle.vrt_model.specs.Path.{Hop, IsPath, Root, end_of, level_of}
@@ -36,6 +37,7 @@ use Rattle.vrt_model.specs.declared.circuit.Hold.{Hold}
 use Rattle.vrt_model.specs.declared.rules.Phase.{Phase}
 use Rattle.vrt_model.specs.declared.whole.Whole.{Whole}
 use Rattle.whole_solutions.proofs.KnownInsideLaws.{unknown_outputs_are_unsettled}
+use Rattle.whole_solutions.proofs.LeastLevels.{least_above}
 use Rattle.whole_solutions.proofs.ObservedCases.{gate_observed}
 use Rattle.whole_solutions.specs.KnownInside.{AreExposedUnsettled}
 
@@ -102,10 +104,10 @@ module _ (q : Comparison) (phase : ℕ) (equal : IsPhaseEqual q phase) (ranges :
   -- ---- levels
 
   -- a path has the level of a device at least
-  path_low : (root : Root) (hops : List Hop) → IsPath (network_of q.circuit true setting.held state) root hops → 4 ≤ level_of root hops
+  path_low : (root : Root) (hops : List Hop) → IsPath (network_of q.circuit true setting.held state) root hops → least_level q.circuit ≤ level_of root hops
   path_low root [] p =
       elim p [
-        | inl g ↦ (let is : root.level ≡ 8 = g.3 in omega (arith, is))
+        | inl g ↦ (let is : root.level ≡ source_level q.circuit = g.3 in let below = least_below q.circuit in omega (arith, is, below))
         | inr other ↦ elim other [
           | inl h ↦ absurd (none-some h.1 (subst (λ (hs : List Hold). At hs h.0 h.1) no_holds h.2))
           | inr o ↦ (let out = pin_found q.circuit o.0 o.1 o.2 in absurd (no_pin out.0 (o.0, out.1)))
@@ -117,7 +119,7 @@ module _ (q : Comparison) (phase : ℕ) (equal : IsPhaseEqual q phase) (ranges :
       omega (arith, before, low)
 
   -- and where it ends at a plain net that of one at most
-  path_high : (n : ℕ) → IsPlain q.circuit n → (root : Root) (hops : List Hop) → IsPath (network_of q.circuit true setting.held state) root hops → end_of root hops ≡ n → level_of root hops ≤ 7
+  path_high : (n : ℕ) → IsPlain q.circuit n → (root : Root) (hops : List Hop) → IsPath (network_of q.circuit true setting.held state) root hops → end_of root hops ≡ n → level_of root hops < source_level q.circuit
   path_high n plain root [] p e =
       elim p [
         | inl g ↦ absurd (plain_not_given q.circuit root.net g.0 (subst (IsPlain q.circuit) (sym e) plain) g.1 g.2)
@@ -134,15 +136,15 @@ module _ (q : Comparison) (phase : ℕ) (equal : IsPhaseEqual q phase) (ranges :
   reached n true h = h.0
   reached n false h = h.0
 
-  pub level_in_range : (n level : ℕ) → phase < length q.rules.phases → IsPlain q.circuit n → is_observed q phase n ≡ true → HasLevel q n level → (c : Circuit) → IsDeviceLevel c level
-  level_in_range n level lt plain seen has c =
+  pub level_in_range : (n level : ℕ) → phase < length q.rules.phases → IsPlain q.circuit n → is_observed q phase n ≡ true → HasLevel q n level → IsDeviceLevel q.circuit level
+  level_in_range n level lt plain seen has =
       let strong : IsStrength (network_of q.circuit true setting.held state) n level = has phase equal.met.0 solution state true lt equal.met.1 solves is_state agrees in
       let bit = shows n seen in
       let path = reached n bit.0 bit.1 in
       let low = path_low path.0 path.1 path.2 in
       let most = strong.0 path.0 path.1 path.2 path.4 in
       elim strong.1 [
-        | inl none ↦ absurd (omega (arith, none, low, most))
+        | inl none ↦ absurd (let above = least_above q.circuit in omega (arith, none, low, most, above))
         | inr some ↦
             let high = path_high n plain some.0 some.1 some.2 some.3 in
             let same = some.4 in (omega (arith, low, most), omega (arith, high, same))

@@ -23,7 +23,7 @@ use Rattle.vrt_model.specs.Circuits.{IsCircuit}
 use Rattle.vrt_model.specs.Comparison.{CellPort, Comparison, is_observed, phase_at}
 use Rattle.vrt_model.specs.Cut.{Cut, NumberedPlace, is_inside_whole, numbered_places, whole_places}
 use Rattle.vrt_model.specs.Facts.{IsTrueDrive, IsTrueFor, IsTrueOf}
-use Rattle.vrt_model.specs.FlatBlif.{all_models, flat_model_of, signals_of}
+use Rattle.vrt_model.specs.FlatBlif.{all_models, flat_model_of, signals_of, network_names, unrolled_of}
 use Rattle.vrt_model.specs.FlatCircuit.{flat_circuit_of, net_id}
 use Rattle.vrt_model.specs.Groups.{groups_of}
 use Rattle.vrt_model.specs.Known.{HasArc, HasGateArc, IsHeld, IsPlain, IsTogether}
@@ -72,18 +72,18 @@ unfolding all_places net_at own_nets global_nets
 one_whole_are = refl
 
 one_circuit_is : circuit_with one_cut blif facts ≡ checked []
-unfolding circuit_with is_observed flat_circuit_of all_places net_at own_nets global_nets flat_model_of all_models signals_of pairing_of groups_of
+unfolding circuit_with is_observed flat_circuit_of all_places net_at own_nets global_nets flat_model_of unrolled_of network_names all_models signals_of pairing_of groups_of
 one_circuit_is = refl
 
 pins_are : pins_of of_inverter the_place.at ≡ pins
 pins_are = refl
 
 own_is : whole_at cut blif facts the_place ≡ Some (own [])
-unfolding is_observed flat_circuit_of all_places net_at own_nets global_nets flat_model_of all_models signals_of pairing_of groups_of
+unfolding is_observed flat_circuit_of all_places net_at own_nets global_nets flat_model_of unrolled_of network_names all_models signals_of pairing_of groups_of
 own_is = refl
 
 outputs_are : outputs_of_place cut.top blif facts the_place ≡ record { instance = 1; output = 0; pin = the_output } ∷ []
-unfolding is_observed flat_circuit_of all_places net_at own_nets global_nets flat_model_of all_models signals_of pairing_of groups_of
+unfolding is_observed flat_circuit_of all_places net_at own_nets global_nets flat_model_of unrolled_of network_names all_models signals_of pairing_of groups_of
 outputs_are = refl
 
 inverter_model : (m : ℕ) → paired_model design blif base 0 ≡ Model m → m ≡ 0
@@ -146,11 +146,11 @@ abbrev the_out : OutputAt
 the_out = record { instance = 1; output = 0; pin = the_output }
 
 cell_allowed : is_cell_allowed cut.top facts (comparison_of design blif base 0 0) ≡ true
-unfolding is_observed flat_circuit_of all_places net_at own_nets global_nets flat_model_of all_models signals_of pairing_of groups_of
+unfolding is_observed flat_circuit_of all_places net_at own_nets global_nets flat_model_of unrolled_of network_names all_models signals_of pairing_of groups_of
 cell_allowed = refl
 
 out_allowed : is_output_allowed (checked_devices one_cut) (all_outputs one_cut blif facts) the_out ≡ true
-unfolding is_observed flat_circuit_of all_places net_at own_nets global_nets flat_model_of all_models signals_of pairing_of groups_of
+unfolding is_observed flat_circuit_of all_places net_at own_nets global_nets flat_model_of unrolled_of network_names all_models signals_of pairing_of groups_of
 out_allowed = refl
 
 out_is : (o : OutputAt) → Among (outputs_of_place cut.top blif facts the_place) o → the_out ≡ o
@@ -164,6 +164,7 @@ may_be_whole = record {
   place = subst (λ (ps : List NumberedPlace). At ps 1 the_place) (sym places_are) refl;
   paired = refl;
   cell = cell_allowed;
+  cared = refl;
   plain = λ o on. subst (λ (x : OutputAt). IsPlain (circuit_with one_cut blif facts) x.pin.net.0 × (¬ IsHeld (circuit_with one_cut blif facts) x.pin.net.0)) (out_is o on) out_plain;
   allowed = λ o on. subst (λ (x : OutputAt). is_output_allowed (checked_devices one_cut) (all_outputs one_cut blif facts) x ≡ true) (out_is o on) out_allowed;
   acyclic = λ phase lt. rising_arcs_are_acyclic (HasArcWith one_cut blif facts phase) order (arc_rises phase);
@@ -262,6 +263,7 @@ circuit_is = record {
   holds = ap (λ (c : Circuit). c.holds) (sym checked_is);
   instances = ap (λ (c : Circuit). c.instances) (sym checked_is);
   wholes = subst (λ (ps : List NumberedPlace). AllZip (IsWholeAt cut blif facts) ps (own links ∷ [])) (sym whole_places_are) (whole_there, tt);
+  source = refl;
 }
 
 groups_are : [] ≡ groups_of flat of_buffer.model

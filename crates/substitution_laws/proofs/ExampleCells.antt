@@ -6,7 +6,7 @@ use Rattle.vrt_model.proofs.Cells.{base, cover, design_of, gnd, model_of, n_devi
 use Rattle.vrt_model.specs.Checked.{circuit_with}
 use Rattle.vrt_model.specs.Comparison.{Comparison, is_observed}
 use Rattle.vrt_model.specs.Cut.{Cut}
-use Rattle.vrt_model.specs.FlatBlif.{all_models, flat_model_of, signals_of}
+use Rattle.vrt_model.specs.FlatBlif.{all_models, flat_model_of, signals_of, network_names, unrolled_of}
 use Rattle.vrt_model.specs.FlatCircuit.{flat_circuit_of}
 use Rattle.vrt_model.specs.Groups.{groups_of}
 use Rattle.vrt_model.specs.PairedPorts.{pairing_of}
@@ -77,7 +77,7 @@ abbrev port_nets : List FlatNet → List FlatNet
 port_nets rest = net gnd (Supply false) ∷ net vdd (Supply true) ∷ net (codes "a") InputNet ∷ net (codes "y") Plain ∷ rest
 
 abbrev pub inverter : Circuit
-inverter = record { nets = port_nets []; devices = device (codes "p") P 3 2 1 ∷ device (codes "n") N 3 2 0 ∷ []; holds = []; instances = []; wholes = [] }
+inverter = record { nets = port_nets []; devices = device (codes "p") P 3 2 1 ∷ device (codes "n") N 3 2 0 ∷ []; holds = []; instances = []; wholes = []; source = 8 }
 
 abbrev pub instance : FlatInstance
 instance = record { path = codes "x"; cell = 0; ports = record { 0 = 2 } ∷ record { 0 = 4 } ∷ [] }
@@ -89,6 +89,7 @@ flat = record {
   holds = [];
   instances = instance ∷ [];
   wholes = [];
+  source = 8;
 }
 
 -- a model of one input and one output, by the row at which it gives 1
@@ -100,6 +101,7 @@ model row = record {
   outputs = 1 ∷ [];
   covers = record { inputs = 0 ∷ []; output = 1; on = true; rows = row ∷ [] } ∷ [];
   latches = [];
+  dontcares = [];
 }
 
 abbrev pub own : List Link → Whole
@@ -120,6 +122,7 @@ checked links = record {
   holds = [];
   instances = instance ∷ [];
   wholes = own links ∷ [];
+  source = 8;
 }
 
 -- ---- the comparisons
@@ -131,11 +134,11 @@ abbrev pub of_buffer : Comparison
 of_buffer = record { design = design; rules = base; cell = 1; pairing = record { model = 1; ports = roles; clocked = [] }; circuit = flat; model = model (codes "1"); groups = [] }
 
 pub inverter_is : comparison_of design blif base 0 0 ≡ of_inverter
-unfolding flat_circuit_of all_places net_at own_nets global_nets flat_model_of all_models signals_of pairing_of groups_of
+unfolding flat_circuit_of all_places net_at own_nets global_nets flat_model_of unrolled_of network_names all_models signals_of pairing_of groups_of
 inverter_is = refl
 
 pub buffer_is : comparison_of design blif base 1 1 ≡ of_buffer
-unfolding flat_circuit_of all_places net_at own_nets global_nets flat_model_of all_models signals_of pairing_of groups_of
+unfolding flat_circuit_of all_places net_at own_nets global_nets flat_model_of unrolled_of network_names all_models signals_of pairing_of groups_of
 buffer_is = refl
 
 pub flat_is : flat_circuit_of cut.top ≡ flat
@@ -143,5 +146,5 @@ unfolding flat_circuit_of all_places net_at own_nets global_nets
 flat_is = refl
 
 pub checked_is : circuit_with cut blif facts ≡ checked []
-unfolding circuit_with is_observed flat_circuit_of all_places net_at own_nets global_nets flat_model_of all_models signals_of pairing_of groups_of
+unfolding circuit_with is_observed flat_circuit_of all_places net_at own_nets global_nets flat_model_of unrolled_of network_names all_models signals_of pairing_of groups_of
 checked_is = refl

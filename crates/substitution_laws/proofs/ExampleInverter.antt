@@ -202,14 +202,14 @@ module _ (b : Bool) (a : Partial) (solves : Solves of_inverter 0 (setting b) a) 
         never filled is (solution_agrees inverter phase good (setting b) seen a solves) here.0 (bit_of_solution at here.0 s here.1)
         (same_response inverter phase good (setting b) false (state b) filled (state_is b) is at (Shows here.0) (kept_response inverter (setting b).held (state b) no_keepers true false at (Shows here.0) here.1))
     no_fault Constraint at (i, there, broken) = none-some i there
-    no_fault Differs zero (n, w, (port, signal, there, role, s, net, value), misses) =
+    no_fault Differs zero (n, w, (port, signal, there, role, s, asked, net, value), misses) =
         none-some signal (ap (λ (p : CellPort). output_signal p.role) (same_Some port_a port there) ∙ role)
-    no_fault Differs (suc zero) (n, w, (port, signal, there, role, s, net, value), misses) =
+    no_fault Differs (suc zero) (n, w, (port, signal, there, role, s, asked, net, value), misses) =
         let same = same_Some port_y port there in
         let three : n ≡ 3 = net ∙ ap (λ (p : CellPort). p.net) (sym same) in
         let one : signal ≡ 1 = same_Some signal 1 (sym role ∙ ap (λ (p : CellPort). output_signal p.role) (sym same)) in
         misses (ap a three ∙ bit_of_solution 3 (not b) output_seen (output_shows b) ∙ ap (λ (x : Bool). Some x) (sym output_signal_is) ∙ ap (λ (x : ℕ). Some (g.signal x)) (sym one) ∙ sym value)
-    no_fault Differs (suc (suc at)) (n, w, (port, signal, there, role, s, net, value), misses) = none-some port there
+    no_fault Differs (suc (suc at)) (n, w, (port, signal, there, role, s, asked, net, value), misses) = none-some port there
     no_fault Next at (n, w, wants, misses) = (let hold = wants.1.4.stands in none-some hold.0 hold.1)
     no_fault Apart at (n, w, wants, misses) = (let hold = wants.1.5.stands in none-some hold.0 hold.1)
     no_fault Enter at (n, w, wants, misses) = none-some wants.1.1 wants.1.2

@@ -155,6 +155,7 @@ module _ (name row : List ℕ) (fit : IsRow 1 row) where
     output_lines = refl;
     covers = All-cons IsCoverLine the_cover [] (record { input_limit = omega arith; rows = All-cons (IsRow 1) row [] fit (All-nil (IsRow 1)); empty = λ e. refl }) (All-nil IsCoverLine);
     latches = All-nil (λ (l : LatchLine). l.init ≤ 3);
+    exdc = All-nil IsCoverLine;
   }
 
 blif_is : IsBlif blif
@@ -189,6 +190,7 @@ models_are = record { subs = refl; well_founded = λ n lt self. none_inside n n 
 
 rules_are : AreRules base
 rules_are = record {
+  scale = inl refl;
   clock_limit = omega arith;
   clocks = apart_none bytes_eq;
   some_phase = omega arith;
@@ -197,7 +199,7 @@ rules_are = record {
   bits = All-cons (λ (p : Phase). length p.bits ≡ 0) the_phase [] refl (All-nil (λ (p : Phase). length p.bits ≡ 0));
   supplies = apart_two _ _ _ refl refl;
   devices = apart_two _ _ _ refl refl;
-  device_levels = All-cons (λ (d : DeviceRule). IsLevel d.level) n_rule (p_rule ∷ []) (omega arith, omega arith) (All-cons (λ (d : DeviceRule). IsLevel d.level) p_rule [] (omega arith, omega arith) (All-nil (λ (d : DeviceRule). IsLevel d.level)));
+  device_levels = All-cons (λ (d : DeviceRule). IsLevel base d.level) n_rule (p_rule ∷ []) (omega arith, omega arith) (All-cons (λ (d : DeviceRule). IsLevel base d.level) p_rule [] (omega arith, omega arith) (All-nil (λ (d : DeviceRule). IsLevel base d.level)));
   strengths = apart_none _;
   strength_levels = All-nil _;
   clockports = apart_none _;

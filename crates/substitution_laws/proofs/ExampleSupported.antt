@@ -8,7 +8,7 @@ use Rattle.substitution_laws.proofs.ExampleCells.{blif, buffer_is, design, inver
 use Rattle.substitution_laws.proofs.LoneNets.{rising_arcs_are_acyclic}
 use Rattle.vrt_model.proofs.Cells.{base, cover}
 use Rattle.vrt_model.specs.Comparison.{Comparison, default_clock_bit, phase_at}
-use Rattle.vrt_model.specs.FlatBlif.{all_models, flat_model_of, signals_of}
+use Rattle.vrt_model.specs.FlatBlif.{all_models, flat_model_of, signals_of, network_names, unrolled_of}
 use Rattle.vrt_model.specs.FlatCircuit.{flat_circuit_of}
 use Rattle.vrt_model.specs.Groups.{groups_of}
 use Rattle.vrt_model.specs.Lists.{At}
@@ -39,11 +39,11 @@ own_model (suc zero) m e = inr (refl, ap number_of (sym e))
 own_model (suc (suc cell)) m e = absurd (false≢true (ap has_model e))
 
 inverter_early : why_paired design blif base 0 0 ≡ None
-unfolding flat_circuit_of all_places net_at own_nets global_nets flat_model_of all_models signals_of pairing_of groups_of variables_of ports_fault
+unfolding flat_circuit_of all_places net_at own_nets global_nets flat_model_of unrolled_of network_names all_models signals_of pairing_of groups_of variables_of ports_fault
 inverter_early = refl
 
 buffer_early : why_paired design blif base 1 1 ≡ None
-unfolding flat_circuit_of all_places net_at own_nets global_nets flat_model_of all_models signals_of pairing_of groups_of variables_of ports_fault
+unfolding flat_circuit_of all_places net_at own_nets global_nets flat_model_of unrolled_of network_names all_models signals_of pairing_of groups_of variables_of ports_fault
 buffer_early = refl
 
 -- ---- nothing stands in the way of them

@@ -11,7 +11,7 @@ use Rattle.placed_cells.specs.Splits.{IsSplit}
 use Rattle.replaced_instances.proofs.OutputPorts.{is_net_role}
 use Rattle.replaced_instances.proofs.StepHides.{port_observed}
 use Rattle.replaced_instances.proofs.StepInstances.{port_of_net}
-use Rattle.replaced_instances.proofs.StepPorts.{keeps_free, no_holds, place_there, port_listed, told}
+use Rattle.replaced_instances.proofs.StepPorts.{keeps_free, no_holds, place_there, port_listed, told, may}
 use Rattle.replaced_instances.specs.Steps.{IsStep, compared_at}
 use Rattle.substitution_laws.specs.Chosen.{ChosenCellsAreLogic}
 use Rattle.formed_cells.specs.Formed.{IsFormed}
@@ -19,6 +19,7 @@ use Rattle.substitution_laws.proofs.FormedCells.{formed_cell}
 use Rattle.vrt_model.proofs.Filtered.{among_kept, device_among}
 use Rattle.vrt_model.proofs.Lists.{among_filter_map}
 use Rattle.vrt_model.proofs.Members.{at_all}
+use Rattle.vrt_model.proofs.Networkless.{no_network}
 use Rattle.vrt_model.specs.Assignment.{Tied}
 use Rattle.vrt_model.specs.CellRules.{is_observed_port}
 use Rattle.vrt_model.specs.Checked.{may_meet_channels}
@@ -176,6 +177,7 @@ module _ {all_soft : Bool} (cut : Cut) (blif : Blif) (facts : List CellFacts) (i
         ranges = record { devices = formed.circuit.devices; holds = formed.circuit.holds; wholes = formed.circuit.wholes };
         wholes = no_wholes;
         holds = no_holds cut blif facts i p m step;
+        cared = no_network blif m (may cut blif facts i p m step).cared;
         inputs = input_net;
         free = free;
         outputs = not_tied;

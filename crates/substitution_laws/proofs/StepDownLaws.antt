@@ -38,6 +38,7 @@ use Rattle.vrt_model.specs.Determined.{IsLinkedTo}
 use Rattle.vrt_model.specs.Expressions.{names_in}
 use Rattle.vrt_model.specs.FlatCircuit.{flat_instance, net_id}
 use Rattle.vrt_model.specs.Known.{HasArc, IsPlain, IsTogether, IsUnknown}
+use Rattle.vrt_model.specs.Levels.{source_level}
 use Rattle.vrt_model.specs.Lists.{Among, At, has_name}
 use Rattle.vrt_model.specs.Path.{level_of_drive}
 use Rattle.vrt_model.specs.Places.{named_nets_from}
@@ -213,7 +214,7 @@ module _ {all_soft : Bool} (k : Comparison) (cut : Cut) (blif : Blif) (facts : L
     instance = subst (λ (y : FlatInstance). Among whole_circuit.instances y) (instance_is k cut blif facts i p m depth front back c whole_circuit h phase lt) one.instance.1;
     outputs = λ l plain stays.
         let pin = pin_there cut blif facts i p m depth front back c whole_circuit h.step phase l plain stays in
-        (pin.0, pin.1, pin.2, pin.3, λ hidden. ap (λ (d : Drive). level_of_drive 8 d) (pin.4 hidden));
+        (pin.0, pin.1, pin.2, pin.3, λ hidden. ap (λ (d : Drive). level_of_drive (source_level whole_circuit) d) (pin.4 hidden));
     output_links = λ j l y n pin here plain is e apart together chain.
         let now = ap (λ (u : Top). phase_at u.rules phase) same in
         let from = output_linked j l y n pin here plain is e apart (subst (λ (f : Phase). IsTogether q.circuit f bare y n) (sym now) together) (subst (λ (f : Phase). IsChain (HasArc q.circuit f) n l) (sym now) chain) in

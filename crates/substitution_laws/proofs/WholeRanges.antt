@@ -1,5 +1,5 @@
 -- Numbers, levels and sizes of the circuits of a chain are in range.
-use Rattle.std.proofs.Common.{◌≡◌, ℕ, zero, suc, ◌<◌, Bool, true, false, not, cond, List, [], ◌∷◌, map, length, Option, Some, None, refl, ap, sym, ◌∙◌, subst}
+use Rattle.std.proofs.Common.{◌≡◌, ℕ, zero, suc, ◌<◌, Bool, true, false, not, cond, List, [], ◌∷◌, map, length, Option, Some, None, refl, ap, sym, ◌∙◌, subst, ◌≤◌, ◌==◌}
 use Rattle.std.specs.Prelude.{All, drop, option_map}
 use Rattle.std.proofs.lemmas.Bool.{false≢true}
 use Rattle.std.proofs.lemmas.Option.{none-some, same_Some, slice_get_within}
@@ -11,7 +11,7 @@ use Rattle.placed_cells.proofs.ListLaws.{zip_right}
 use Rattle.replaced_instances.proofs.StepInstances.{front_of}
 use Rattle.replaced_instances.specs.Steps.{compared_at}
 use Rattle.substitution_laws.proofs.ChosenLaws.{chosen_instances_are_steps, tried_steps_are_chosen}
-use Rattle.substitution_laws.proofs.DriveRanges.{told_in_range}
+use Rattle.substitution_laws.proofs.DriveRanges.{told_in_range, flat_source}
 use Rattle.substitution_laws.proofs.EndsLaws.{tried_ends_are_shown}
 use Rattle.substitution_laws.proofs.WholeCells.{whole_chosen}
 use Rattle.substitution_laws.specs.Chosen.{IsTrial}
@@ -23,6 +23,7 @@ use Rattle.substitution_laws.specs.Wholes.{CircuitsHaveRanges, CutsHaveRanges, I
 use Rattle.vrt_model.proofs.Filtered.{filter_among}
 use Rattle.vrt_model.proofs.Lists.{among_filter_map, at_there, filter_map_among, map_among}
 use Rattle.vrt_model.proofs.Members.{all_among, all_by, among_flat_map, among_later, among_map, flat_map_among}
+use Rattle.vrt_model.proofs.Scales.{same_source}
 use Rattle.vrt_model.specs.Assignment.{Tied}
 use Rattle.vrt_model.specs.Checked.{IsCircuitWith, before, with_one}
 use Rattle.vrt_model.specs.CheckedParts.{checked_devices, moved_end}
@@ -32,6 +33,7 @@ use Rattle.vrt_model.specs.Cut.{Cut, NumberedPlace, is_left_out, is_whole, moved
 use Rattle.vrt_model.specs.FlatCircuit.{flat_circuit_of, flat_device, flat_devices, flat_holds, flat_instance, flat_instances, net_id}
 use Rattle.vrt_model.specs.FlatModels.{IsFlatModel}
 use Rattle.vrt_model.specs.Known.{IsPlain}
+use Rattle.vrt_model.specs.Levels.{IsHoldSize}
 use Rattle.vrt_model.specs.Lists.{Among, At}
 use Rattle.vrt_model.specs.Unrolled.{Place, Top, all_places}
 use Rattle.vrt_model.specs.PairedPorts.{Model, paired_model}
@@ -55,11 +57,11 @@ use Rattle.vrt_model.specs.declared.whole.Whole.{Whole}
 use Rattle.vrt_model.specs.declared.whole.WholePin.{WholePin}
 use Rattle.whole_ranks.proofs.PlaceLaws.{input_pin_of, made, made_is, output_pin}
 
--- a drive in range is so in each circuit, and so is it where it is settled
-settled_in_range : (b : Bool) (c flat : Circuit) (d : Drive) → IsDrive flat d → IsDrive c (cond b Soft d)
-settled_in_range true c flat d is = tt
-settled_in_range false c flat Soft is = tt
-settled_in_range false c flat (Level level) is = is
+-- a drive in range is so in each circuit with the same source level, and so is it where it is settled
+settled_in_range : (b : Bool) (c flat : Circuit) (d : Drive) → flat.source ≡ c.source → IsDrive flat d → IsDrive c (cond b Soft d)
+settled_in_range true c flat d same is = tt
+settled_in_range false c flat Soft same is = tt
+settled_in_range false c flat (Level level) same is = (same_source flat c level same).1 is
 
 -- a device that is shown is one of the flat circuit
 pub device_flat : (cut : Cut) (d : Device) → Among (checked_devices cut) d → Among (flat_devices cut.top) d
@@ -73,6 +75,9 @@ module _ (cut : Cut) (blif : Blif) (facts : List CellFacts) (c : Circuit) (h : I
   abbrev t : Top
   t = cut.top
 
+  same_level : (flat_circuit_of t).source ≡ c.source
+  same_level = flat_source t ∙ sym circuit.source
+
   in_range : (net : Net) → IsNet (flat_circuit_of t) net → IsNet c net
   unfolding flat_circuit_of
   in_range net lt = subst (λ (nets : List FlatNet). net.0 < length nets) (sym circuit.nets) lt
@@ -81,7 +86,7 @@ module _ (cut : Cut) (blif : Blif) (facts : List CellFacts) (c : Circuit) (h : I
   unfolding flat_circuit_of
   device_in_range d on =
       let is = all_among (IsDevice (flat_circuit_of t)) (flat_devices t) d h.flat.devices (device_flat cut d (subst (λ (ds : List Device). Among ds d) circuit.devices on)) in
-      record { gate = in_range d.gate is.gate; left = in_range d.left is.left; right = in_range d.right is.right; level = is.level }
+      record { gate = in_range d.gate is.gate; left = in_range d.left is.left; right = in_range d.right is.right; level = (same_source (flat_circuit_of t) c d.level same_level).1 is.level }
 
   end_in_range : (e : HoldEnd) → IsEnd (flat_circuit_of t) e → IsEndShown cut e → IsEnd c (moved_end cut e)
   unfolding flat_circuit_of
@@ -92,13 +97,16 @@ module _ (cut : Cut) (blif : Blif) (facts : List CellFacts) (c : Circuit) (h : I
       let here : At c.instances (moved_instance cut i) x.0 = subst (λ (xs : List FlatInstance). At xs (moved_instance cut i) x.0) (sym circuit.instances) (instances_move cut i there ∙ x.1) in
       slice_get_within c.instances (moved_instance cut i) x.0 here
 
+  size_in_range : (size : ℕ) → IsHoldSize (flat_circuit_of t) size → IsHoldSize c size
+  size_in_range size is = subst (λ (source : ℕ). (1 ≤ size) × (size < cond (source == 15) 6 4)) same_level is
+
   hold_in_range : (g : Hold) → Among c.holds g → IsHold c g
   unfolding flat_circuit_of
   hold_in_range g on =
       let moved : Hold → Hold = λ (x : Hold). record x { end = moved_end cut x.end } in
       let from = among_map moved (flat_holds t) g (subst (λ (gs : List Hold). Among gs g) circuit.holds on) in
       let is = all_among (IsHold (flat_circuit_of t)) (flat_holds t) from.0 h.flat.holds from.1 in
-      subst (IsHold c) from.2 (record { net = in_range from.0.net is.net; size = is.size; end = end_in_range from.0.end is.end (h.ends from.0 from.1) })
+      subst (IsHold c) from.2 (record { net = in_range from.0.net is.net; size = size_in_range from.0.size is.size; end = end_in_range from.0.end is.end (h.ends from.0 from.1) })
 
   -- the nets of ports are in range
   port_in_range : (r : Place) (j : ℕ) (port : ℕ) → At (all_places t) j r → Among (drop 1 (all_places t)) r → Among r.ports port → IsNet c (net_id port)
@@ -178,7 +186,7 @@ module _ (cut : Cut) (blif : Blif) (facts : List CellFacts) (c : Circuit) (h : I
       let from = output_pin cut blif facts p m w paired whole pin there in
       let settled : OutputAt → WholePin = λ o. settled_drive devices outputs o in
       let o = among_map settled (outputs_of_place cut.top blif facts p) pin (subst (λ (pins : List WholePin). Among pins pin) (sym (ap (λ (x : Whole). x.outputs) made_whole)) there) in
-      let range = settled_in_range (meets_gates_only devices outputs o.0) c (flat_circuit_of cut.top) o.0.pin.drive (h.drives p o.0 listed o.1) in (
+      let range = settled_in_range (meets_gates_only devices outputs o.0) c (flat_circuit_of cut.top) o.0.pin.drive (same_level cut blif facts c h circuit) (h.drives p o.0 listed o.1) in (
         subst (IsNet c) from.3 (pin_net from.0 from.1),
         output_below_it from.0 pin.signal from.1 from.2,
         subst (λ (x : WholePin). IsDrive c x.drive) o.2 range,
@@ -243,7 +251,7 @@ circuits_have_ranges cut blif facts n c h flat ends circuit =
       drives = λ p o on there.
           (let is = whole_chosen cut n p on in
           let step = chosen_instances_are_steps cut blif facts is.0 p h is.1.place is.1.chosen in
-          told_in_range cut blif facts is.0 p step.0 step.1 (formed_cell cut blif facts p.at.cell step.0 h step.2) h.read.valid.some_phase (flat_circuit_of cut.top) o there);
+          told_in_range cut blif facts is.0 p step.0 step.1 (formed_cell cut blif facts p.at.cell step.0 h step.2) h.read.valid.some_phase (flat_circuit_of cut.top) (flat_source cut.top) o there);
       ends = ends;
     })
     circuit
@@ -271,7 +279,7 @@ module _ (cut : Cut) (blif : Blif) (facts : List CellFacts) (c : Circuit) (h : I
     drives = λ p o on there.
         (let is = chosen_place p on in
         let step = tried_steps_are_chosen cut blif facts is.0 p h is.1 is.2 in
-        told_in_range cut blif facts is.0 p step.0 step.1 (supported_cells_are_formed cut.top.design blif cut.top.rules p.at.cell step.0 h.read step.2) h.read.valid.some_phase (flat_circuit_of cut.top) o there);
+        told_in_range cut blif facts is.0 p step.0 step.1 (supported_cells_are_formed cut.top.design blif cut.top.rules p.at.cell step.0 h.read step.2) h.read.valid.some_phase (flat_circuit_of cut.top) (flat_source cut.top) o there);
     ends = tried_ends_are_shown cut blif facts h;
   }
 

@@ -15,6 +15,7 @@ use Rattle.vrt_model.proofs.Decidable.{some_response}
 use Rattle.vrt_model.proofs.Laws.{one_response}
 use Rattle.vrt_model.proofs.Networks.{network_finite}
 use Rattle.vrt_model.specs.Known.{IsKnown, IsPlain, settled}
+use Rattle.vrt_model.specs.Levels.{source_level}
 use Rattle.vrt_model.specs.Lists.{Among, has_number}
 use Rattle.vrt_model.specs.Path.{Network}
 use Rattle.vrt_model.specs.Response.{Fight, Float, IsResponse, Response, Shows}
@@ -70,7 +71,7 @@ module _ (c : Circuit) (phase : Phase) (wired : IsWired c) where
       (listed (greatest c phase known).0 n)
       (both_decided (known n ≡ None) ((v : Bool) × IsResponse (view known) n (Shows v)) (none_decided (known n))
       (shows_decided (view known) n
-      (some_response (view known) (length c.nets) 8 (network_finite c true (λ k. false) (record { reading = bits_of known; driven = λ k. false }) wired.ranges) n)))
+      (some_response (view known) (length c.nets) (source_level c) (network_finite c true (λ k. false) (record { reading = bits_of known; driven = λ k. false }) wired.ranges) n)))
 
   -- so it is known
   learned_known : (t : Table) → IsTable t → (n : ℕ) (h : IsLearned t.known n) → IsKnown c phase n h.1.1.0

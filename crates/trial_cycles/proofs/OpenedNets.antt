@@ -376,7 +376,7 @@ module _ (cell low high : Circuit) (phase : Phase) (at place fresh : ℕ → ℕ
     known_kept held driven n v ins c shows =
         let here = and_from (set n) (compared n) ins c in
         settled kept reading held driven set_below here reads_below gate_known
-        (responds_there high low phase o.whole_wired o.wired kept reading set_kept set_below own reads_below (λ m u f. fixed_down m u f) images images_alone held held driven driven n (Shows v) here shows)
+        (responds_there high low phase o.whole_wired o.wired (sym o.whole.source) kept reading set_kept set_below own reads_below (λ m u f. fixed_down m u f) images images_alone held held driven driven n (Shows v) here shows)
 
   -- a compared net that is known with the cell whole is known with it opened
   pub known_below : {n : ℕ} {v : Bool} → IsKnown high phase n v → compared n ≡ true → IsKnown low phase n v

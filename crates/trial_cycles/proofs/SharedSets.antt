@@ -1,4 +1,4 @@
--- A set of nets that is shut in two circuits with the same devices at it: each of its nets responds in the one as in the other.
+-- A set of nets that is shut in two circuits of one source level with the same devices at it: each of its nets responds in the one as in the other.
 use Rattle.std.proofs.Common.{◌≡◌, ◌⊎◌, ℕ, ◌||◌, Bool, true, false, filter, length, subst, sym, refl, ◌∙◌, inl, inr}
 use Rattle.std.proofs.lemmas.Bool.{false≢true, or_cases, or_left, or_right}
 use Rattle.cell_inside.proofs.AssuredLaws.{response_by}
@@ -16,6 +16,7 @@ use Rattle.vrt_model.proofs.Laws.{turned}
 use Rattle.vrt_model.proofs.Locality.{fixed_given}
 use Rattle.vrt_model.proofs.Networks.{given_source, network_finite, network_levels}
 use Rattle.vrt_model.specs.Known.{IsFixed, IsShut}
+use Rattle.vrt_model.specs.Levels.{source_level}
 use Rattle.vrt_model.specs.Lists.{Among}
 use Rattle.vrt_model.specs.Networks.{Covers, HasLevels, IsFinite}
 use Rattle.vrt_model.specs.Path.{IsOn, IsRoot, Joins, Network, Root}
@@ -46,7 +47,7 @@ pub image_joined : (d f : Device) (k l : ℕ) → IsImage (λ x. x) d f → Join
 image_joined d f k l image (inl j) = inl (sym image.left ∙ j.0, sym image.right ∙ j.1)
 image_joined d f k l image (inr j) = inr (sym image.left ∙ j.0, sym image.right ∙ j.1)
 
-module _ (c e : Circuit) (phase : Phase) (wired : IsWired c) (other : IsWired e) (inside reading : ℕ → Bool)
+module _ (c e : Circuit) (phase : Phase) (wired : IsWired c) (other : IsWired e) (level : source_level c ≡ source_level e) (inside reading : ℕ → Bool)
     (shut : IsShut c phase inside reading) (also : IsShut e phase inside reading) (reads : IsReading c phase reading reading) (reads_also : IsReading e phase reading reading)
     (fixed_also : (n : ℕ) (v : Bool) → IsFixed c phase n v → IsFixed e phase n v) (there : HasImages c e inside) (back : AreImages c e inside)
     (held kept driven given : ℕ → Bool) where
@@ -108,7 +109,7 @@ module _ (c e : Circuit) (phase : Phase) (wired : IsWired c) (other : IsWired e)
       let all = network_levels c true held (record { reading = reading; driven = driven }) wired.ranges in
       record { roots = all.roots; devices = λ d on. all.devices d ((of_part d on).0, on.1) }
 
-  part_finite : IsFinite part (length c.nets) 8
+  part_finite : IsFinite part (length c.nets) (source_level c)
   part_finite =
       let all = network_finite c true held (record { reading = reading; driven = driven }) wired.ranges in
       record {
@@ -127,7 +128,7 @@ module _ (c e : Circuit) (phase : Phase) (wired : IsWired c) (other : IsWired e)
       record {
         value = reading n;
         alone = record {
-          root = record { net = n; level = 8; value = reading n };
+          root = record { net = n; level = source_level c; value = reading n };
           is = inl (is.1.0, is.1.1, here, refl, refl);
           net = refl;
           level = refl;
@@ -136,7 +137,7 @@ module _ (c e : Circuit) (phase : Phase) (wired : IsWired c) (other : IsWired e)
               (record { reading = reading; driven = driven }) n (is.1.0, is.1.1, here) root r q full;
         };
         above = record {
-          root = record { net = n; level = 8; value = reading n };
+          root = record { net = n; level = source_level e; value = reading n };
           is = inl (there.0, there.1, above, refl, refl);
           net = refl;
           level = refl;
@@ -185,7 +186,7 @@ module _ (c e : Circuit) (phase : Phase) (wired : IsWired c) (other : IsWired e)
 
   part_inside : IsInside part second (λ x. x) inside (λ n. false) (λ n. 0)
   part_inside = record {
-    source = refl;
+    source = level;
     no_root = λ root r ins. no_root root r ins;
     bounded = ends;
     there = on_there;

@@ -240,6 +240,7 @@ module _ (cut : Cut) (blif : Blif) (facts : List CellFacts) (c : Circuit) (h : I
     place = place;
     paired = may.paired;
     cell = may.cell;
+    cared = may.cared;
     plain = may.plain;
     allowed = may.allowed;
     acyclic = λ phase lt.
@@ -258,7 +259,7 @@ any_allowed_are_chosen cut blif facts c choice h i p place = (
   λ chosen. any_tried_may_be_whole cut blif facts c i p h place chosen,
   λ found.
       (let may : MayBeWhole (before cut i) blif facts i p found.1.0 = found.1.1 in
-      (choice i p place).1 (found.0, (found.1.0, record { paired = may.paired; cell = may.cell; plain = may.plain; allowed = may.allowed }))),
+      (choice i p place).1 (found.0, (found.1.0, record { paired = may.paired; cell = may.cell; cared = may.cared; plain = may.plain; allowed = may.allowed }))),
 )
 
 -- ---- facts without drives

@@ -1,16 +1,21 @@
 -- A cell that is equal to the flat model of a module does what the module means.
-use Rattle.std.proofs.Common.{◌≡◌, ◌≢◌, ℕ, Bool, true, false, List, [], Option, Some, None, refl, ap, sym, subst, ◌∙◌}
+use Rattle.std.proofs.Common.{◌≡◌, ◌≢◌, ◌&&◌, ℕ, Bool, true, false, List, [], Option, Some, None, refl, ap, sym, subst, ◌∙◌}
+use Rattle.std.specs.Prelude.{◌==◌}
+use Rattle.std.specs.List.{list_any}
 use Rattle.verilog_meaning.specs.Cells.{DoesAsSaid, Fits, IsNet, IsOfModule, SaysAt}
 use Rattle.verilog_meaning.specs.FlatBits.{IsExact, IsGot, flat_bits, flat_place}
 use Rattle.verilog_meaning.specs.Meaning.{IsMeaning}
 use Rattle.verilog_meaning.specs.Meaning.StandsAt.{itself}
 use Rattle.verilog_models.specs.Models.{blif_of}
 use Rattle.verilog_source.specs.Modules.{Module}
+use Rattle.verilog_meaning.proofs.FlatLaws.{no_networks}
+use Rattle.vrt_model.specs.declared.flat_model.DontCare.{DontCare}
+use Rattle.vrt_model.proofs.Networkless.{no_network}
 use Rattle.vrt_model.specs.Assignment.{Assignment, IsAssignment, Obeys}
 use Rattle.vrt_model.specs.CellRules.{is_observed_port}
 use Rattle.vrt_model.specs.Comparison.{CellPort, Comparison, cell_at, output_signal, ports_of}
 use Rattle.vrt_model.specs.Equal.{Agree, IsEqual}
-use Rattle.vrt_model.specs.Faults.{Assigns, Solves, surroundings_of}
+use Rattle.vrt_model.specs.Faults.{Assigns, Solves, is_free, surroundings_of}
 use Rattle.vrt_model.specs.Held.{setting_of}
 use Rattle.vrt_model.specs.Lists.{Among}
 use Rattle.vrt_model.specs.Reading.{Partial}
@@ -60,18 +65,23 @@ not_other (Some false) false h = refl
 not_other (Some true) false h = absurd (h (λ e. cc))
 not_other (Some false) true h = absurd (h (λ e. cc))
 
-output_same : (c : Comparison) (phase : ℕ) (setting : Setting) (g : Assignment) (a : Partial) → Agree c phase setting → Solves c phase setting a → Assigns c phase setting g → (port : CellPort) (signal : ℕ)
+-- where no output has a don't-care bit, each matters
+never_free : (flat : FlatModel) (g : Assignment) (signal : ℕ) → flat.dontcares ≡ [] → is_free flat g signal ≡ false
+never_free flat g signal cared = ap (λ (ds : List DontCare). list_any (λ (d : DontCare). (d.output == signal) && g.signal d.bit) ds) cared
+
+output_same : (c : Comparison) (phase : ℕ) (setting : Setting) (g : Assignment) (a : Partial) → c.model.dontcares ≡ [] → Agree c phase setting → Solves c phase setting a → Assigns c phase setting g → (port : CellPort) (signal : ℕ)
     → Among (ports_of c) port → output_signal port.role ≡ Some signal → is_observed_port c.rules (cell_at c.design c.cell).name port.name phase ≡ true → a port.net ≡ Some (g.signal signal)
-output_same c phase setting g a agree solves assigns port signal there output observed =
+output_same c phase setting g a cared agree solves assigns port signal there output observed =
     not_other (a port.net) (g.signal signal)
-    (λ other. agree.no_fault a g solves assigns Differs there.0 (port.net, Some (g.signal signal), (port, signal, there.1, output, observed, refl, refl), other))
+    (λ other. agree.no_fault a g solves assigns Differs there.0 (port.net, Some (g.signal signal), (port, signal, there.1, output, observed, never_free c.model g signal cared, refl, refl), other))
 
 says_at : (c : Comparison) (modules : List Module) (k : ℕ) (top : Module) (phase : ℕ) (setting : Setting) → IsExact modules k top → IsOfModule c modules k top → Agree c phase setting → SaysAt c modules k top phase setting
 says_at c modules k top phase setting exact of agree = record {
   some = some_meaning c modules k top phase setting exact of agree.assignment.0 agree.assignment.1;
   outputs = λ bits meaning fits a solves port signal there output observed name net. (
       let g = assigned_at c modules k top phase setting bits of (exact.got bits meaning) fits in
-      output_same c phase setting g.0 a agree solves g.1 port signal there output observed ∙ ap Some (g.2 name signal net));
+      let cared = ap (λ (m : FlatModel). m.dontcares) of.model ∙ no_network (blif_of modules) k (no_networks modules k) in
+      output_same c phase setting g.0 a cared agree solves g.1 port signal there output observed ∙ ap Some (g.2 name signal net));
 }
 
 -- an equal cell does as the module says

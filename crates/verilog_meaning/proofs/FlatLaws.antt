@@ -1,5 +1,5 @@
 -- What an assignment of a flat model says of modules.
-use Rattle.std.proofs.Common.{◌≡◌, ◌<◌, ℕ, zero, suc, Bool, not, cond, ◌&&◌, ◌||◌, List, [], ◌∷◌, ◌++◌, map, flat_map, Option, Some, None, refl, ap, ap₂, sym, subst, ◌∙◌}
+use Rattle.std.proofs.Common.{inl, inr, length, ◌≡◌, ◌<◌, ℕ, zero, suc, Bool, not, cond, ◌&&◌, ◌||◌, List, [], ◌∷◌, ◌++◌, map, flat_map, Option, Some, None, refl, ap, ap₂, sym, subst, ◌∙◌}
 use Rattle.std.proofs.lemmas.Option.{slice_get_within}
 use Rattle.std.proofs.lemmas.List.{length-map}
 use Rattle.blif_flat.proofs.OneDriverDepths.{Ends, models_end}
@@ -19,7 +19,7 @@ use Rattle.verilog_models.specs.Models.{blif_of, covers_in, model_of}
 use Rattle.verilog_source.specs.Grammar.{IsSource}
 use Rattle.verilog_source.specs.Modules.{Actual, Module, PortTie}
 use Rattle.verilog_tokens.specs.Signs.{Token}
-use Rattle.vrt_model.specs.FlatBlif.{ModelPlace, all_models, flat_cover, flat_latch, flat_model_of, model_at, models_in, signal_at, top_model}
+use Rattle.vrt_model.specs.FlatBlif.{ModelPlace, all_models, flat_cover, flat_latch, flat_model_of, model_at, models_in, network_cover, network_names, signal_at, top_model, unrolled_of}
 use Rattle.vrt_model.specs.Elements.{Numbered, numbered_from}
 use Rattle.vrt_model.specs.Covers.{byte_fits, cover_bit, row_fits}
 use Rattle.vrt_model.specs.Inputs.{IsBlif}
@@ -35,7 +35,7 @@ use Rattle.vrt_model.specs.declared.blif.LatchLine.{LatchLine}
 use Rattle.vrt_model.specs.declared.flat_model.Cover.{Cover}
 use Rattle.vrt_model.specs.declared.flat_model.FlatLatch.{FlatLatch}
 use Rattle.vrt_model.proofs.Lists.{any_same, map_among}
-use Rattle.vrt_model.proofs.Members.{at_none, find_among, flat_map_among}
+use Rattle.vrt_model.proofs.Members.{among_either, among_left, among_map, at_none, find_among, flat_map_among}
 
 -- each cover of a flat model gives its output's bit
 abbrev pub AreCoversObeyed : Blif → ℕ → (ℕ → Bool) → Type 0
@@ -60,11 +60,12 @@ cover_same blif bits p c =
 
 -- so has each cover at a place
 place_covered : (blif : Blif) (m : ℕ) (bits : ℕ → Bool) (p : ModelPlace) → AreCoversObeyed blif m bits → Among (models_in blif deepest (top_model m)) p → AreCovered (bits_at blif bits p) (model_at blif p.model).covers
-unfolding flat_model_of all_models
+unfolding flat_model_of unrolled_of all_models
 place_covered blif m bits p h a c b =
     h (flat_cover blif p c)
+    (among_left (flat_map (λ (at : ModelPlace). map (flat_cover blif at) (model_at blif at.model).covers) (models_in blif deepest (top_model m))) _ (flat_cover blif p c)
     (flat_map_among (λ (at : ModelPlace). map (flat_cover blif at) (model_at blif at.model).covers) (models_in blif deepest (top_model m)) p (flat_cover blif p c) a
-    (map_among (flat_cover blif p) (model_at blif p.model).covers c b))
+    (map_among (flat_cover blif p) (model_at blif p.model).covers c b)))
     ∙ cover_same blif bits p c
 
 same_covers : (bits : List ℕ → Bool) (b : BlifModel) (m : Module) → b ≡ model_of m → AreCovered bits b.covers → AreCovered bits (covers_in 0 m.entries)
@@ -130,9 +131,26 @@ none_placed : (modules : List Module) (ps : List ModelPlace) → flat_map (λ (p
 none_placed modules [] = refl
 none_placed modules (p ∷ ps) = ap₂ (λ (ls : List LatchLine) (fs : List FlatLatch). map (flat_latch (blif_of modules) p) ls ++ fs) (no_latches modules p.model) (none_placed modules ps)
 
+-- nor is there a network, so each cover of a flat model of a text is that of a place
+pub no_networks : (modules : List Module) (n : ℕ) → (model_at (blif_of modules) n).exdc ≡ []
+no_networks [] n = refl
+no_networks (m ∷ modules) zero = refl
+no_networks (m ∷ modules) (suc n) = no_networks modules n
+
+pub cover_placed : (modules : List Module) (k : ℕ) (c : Cover) → Among (flat_model_of (blif_of modules) k).covers c
+    → Among (flat_map (λ (q : ModelPlace). map (flat_cover (blif_of modules) q) (model_at (blif_of modules) q.model).covers) (models_in (blif_of modules) deepest (top_model k))) c
+unfolding flat_model_of unrolled_of all_models
+cover_placed modules k c a =
+    let blif = blif_of modules in
+    let number = network_cover blif k (length (unrolled_of blif k).signals) in
+    elim (among_either (flat_map (λ (q : ModelPlace). map (flat_cover blif q) (model_at blif q.model).covers) (models_in blif deepest (top_model k))) (map number (model_at blif k).exdc) c a) [
+      | inl own ↦ own
+      | inr behind ↦ (let x = among_map number (model_at blif k).exdc c behind in absurd (at_none x.1.0 x.0 (subst (λ (cs : List CoverLine). At cs x.1.0 x.0) (no_networks modules k) x.1.1)))
+    ]
+
 -- a flat model of a text has no latches
 flat_latches : (modules : List Module) (k : ℕ) → (flat_model_of (blif_of modules) k).latches ≡ []
-unfolding flat_model_of all_models
+unfolding flat_model_of unrolled_of all_models
 flat_latches modules k = none_placed modules (models_in (blif_of modules) deepest (top_model k))
 
 -- so an assignment is what gives each cover's output its bit

@@ -15,7 +15,7 @@ use Rattle.verilog_meaning.specs.Nets.{entry_nets}
 use Rattle.verilog_meaning.proofs.Names.{ArePlain}
 use Rattle.verilog_meaning.specs.Terminals.{IsWhole}
 use Rattle.verilog_meaning.proofs.BackLaws.{entries_back}
-use Rattle.verilog_meaning.proofs.FlatLaws.{assigns, bits_at, cover_same, runs, stands_among}
+use Rattle.verilog_meaning.proofs.FlatLaws.{assigns, bits_at, cover_placed, cover_same, runs, stands_among}
 use Rattle.verilog_meaning.proofs.InstanceLaws.{model_there, number_found}
 use Rattle.verilog_meaning.proofs.NameLaws.{own_bits_there, plain_bit, plain_bits, with_own}
 use Rattle.verilog_meaning.proofs.NetLaws.{net_named, net_signal, nets_named}
@@ -29,7 +29,7 @@ use Rattle.verilog_source.specs.Grammar.{IsSource}
 use Rattle.verilog_source.specs.Modules.{Module}
 use Rattle.verilog_tokens.specs.Signs.{Token}
 use Rattle.vrt_model.specs.Covers.{cover_bit}
-use Rattle.vrt_model.specs.FlatBlif.{ModelPlace, all_models, cover_signals, flat_cover, flat_model_of, formals, inner_count, inner_signals, model_at, model_numbered, models_in, signal_at, signals_of, subs_at, subs_from, top_model}
+use Rattle.vrt_model.specs.FlatBlif.{ModelPlace, all_models, cover_signals, flat_cover, flat_model_of, formals, inner_count, inner_signals, model_at, model_numbered, models_in, network_names, signal_at, signals_of, subs_at, subs_from, top_model, unrolled_of}
 use Rattle.vrt_model.specs.Inputs.{IsBlif}
 use Rattle.vrt_model.specs.Lists.{Among, At, has_name, is_empty}
 use Rattle.vrt_model.specs.Models.{AreModels, bad_formal, is_bad_sub, is_model, models_within}
@@ -200,14 +200,14 @@ obeyed_at tokens modules k top bits depth source good are plain at meaning ends 
 
 pub meaning_got : (tokens : List Token) (modules : List Module) (k : ℕ) (top : Module) (bits : List ℕ → List ℕ → Bool) → IsSource tokens modules → IsBlif (blif_of modules) → AreModels (blif_of modules)
     → ArePlain modules → At modules k top → IsMeaning modules top bits → IsGot modules k top bits
-unfolding flat_place flat_model_of all_models bit_in
+unfolding flat_place all_models bit_in
 meaning_got tokens modules k top bits source good are plain at meaning =
     let blif = blif_of modules in
     let all = bits_in modules bits deepest (top_model k) [] in
     let ends = (runs modules k top are at).ends in record {
       signals = bit_in all;
       assigned = assigns modules k (bit_in all) (λ c a. (
-          let p = among_flat_map (λ (q : ModelPlace). map (flat_cover blif q) (model_at blif q.model).covers) (models_in blif deepest (top_model k)) c a in
+          let p = among_flat_map (λ (q : ModelPlace). map (flat_cover blif q) (model_at blif q.model).covers) (models_in blif deepest (top_model k)) c (cover_placed modules k c a) in
           let x = among_map (flat_cover blif p.0) (model_at blif p.0.model).covers c p.2 in
           subst (λ (y : Cover). bit_in all y.output ≡ cover_bit (bit_in all) y) x.2 (obeyed_at tokens modules k top bits deepest source good are plain at meaning ends p.0 p.1 x.0 x.1)));
       nets = λ path m stands x a. (

@@ -115,7 +115,7 @@ pub number_found : (modules : List Module) (name : List ℕ) (m : Module) → mo
 number_found modules name m e = let r = named_model modules name m e in ap (λ o. slice_get modules (unwrap_or o 0)) r.found ∙ r.at
 
 abbrev no_model : BlifModel
-no_model = record { line = 0; name = []; inputs = []; input_lines = []; clocks = []; clock_lines = []; outputs = []; output_lines = []; covers = []; latches = []; subs = [] }
+no_model = record { line = 0; name = []; inputs = []; input_lines = []; clocks = []; clock_lines = []; outputs = []; output_lines = []; covers = []; latches = []; subs = []; exdc = [] }
 
 pub model_found : (modules : List Module) (name : List ℕ) (m : Module) → module_named modules name ≡ Some m → model_at (blif_of modules) (model_numbered (blif_of modules) name) ≡ model_of m
 model_found modules name m e =

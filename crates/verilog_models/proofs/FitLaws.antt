@@ -247,6 +247,7 @@ model_fits m h = record {
   output_lines = lines_of Outputs;
   covers = covers_fit 0 m.entries h;
   latches = All-nil (λ (l : LatchLine). l.init ≤ 3);
+  exdc = All-nil IsCoverLine;
 } where
   apart_of : (d : Direction) → AllApart bytes_eq (ports_by (given_in m.entries) d (ports_in m.entries))
   apart_of d =

@@ -25,6 +25,7 @@ made_of line name inputs input_lines outputs output_lines covers subs = record {
   covers = covers;
   latches = [];
   subs = subs;
+  exdc = [];
 }
 
 -- the parts of a draft are those of the model

@@ -114,6 +114,7 @@ model_of m = record {
   covers = covers_in 0 m.entries;
   latches = [];
   subs = subs_in 0 m.entries;
+  exdc = [];
 }
 
 abbrev pub blif_of : List Module → Blif

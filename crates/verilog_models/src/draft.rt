@@ -164,6 +164,7 @@ impl Draft {
             covers: made.into_covers(),
             latches: Seq::new(alloc),
             subs,
+            exdc: Seq::new(alloc),
         })
     }
 }

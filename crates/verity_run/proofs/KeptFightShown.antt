@@ -13,7 +13,7 @@ use Rattle.vrt_model.specs.Comparison.{Comparison, tied_inputs}
 use Rattle.vrt_model.specs.Constraints.{Meets}
 use Rattle.vrt_model.specs.Covers.{cover_bit}
 use Rattle.vrt_model.specs.Faults.{Assigns}
-use Rattle.vrt_model.specs.FlatBlif.{all_models, flat_model_of, signals_of}
+use Rattle.vrt_model.specs.FlatBlif.{all_models, flat_model_of, network_names, signals_of, unrolled_of}
 use Rattle.vrt_model.specs.FlatCircuit.{flat_circuit_of}
 use Rattle.vrt_model.specs.Groups.{groups_of}
 use Rattle.vrt_model.specs.Held.{setting_of}
@@ -62,12 +62,12 @@ cell = record {
   cell = 0;
   pairing = record { model = 0; ports = Input 0 ∷ Output 1 ∷ []; clocked = [] };
   circuit = circuit;
-  model = record { signals = codes "a" ∷ codes "y" ∷ []; inputs = 0 ∷ []; clocks = []; outputs = 1 ∷ []; covers = record { inputs = 0 ∷ []; output = 1; on = true; rows = codes "0" ∷ [] } ∷ []; latches = [] };
+  model = record { signals = codes "a" ∷ codes "y" ∷ []; inputs = 0 ∷ []; clocks = []; outputs = 1 ∷ []; covers = record { inputs = 0 ∷ []; output = 1; on = true; rows = codes "0" ∷ [] } ∷ []; latches = []; dontcares = [] };
   groups = [];
 }
 
 cell_is : comparison_of design (record { models = model_of (codes "f") (codes "a" ∷ []) (codes "y" ∷ []) (cover (codes "a" ∷ []) (codes "y") true (codes "0" ∷ []) ∷ []) [] [] ∷ [] }) rules 0 0 ≡ cell
-unfolding flat_circuit_of all_places net_at own_nets global_nets flat_model_of all_models signals_of pairing_of groups_of
+unfolding flat_circuit_of all_places net_at own_nets global_nets flat_model_of unrolled_of network_names all_models signals_of pairing_of groups_of
 cell_is = refl
 
 abbrev first0 : Device
@@ -82,7 +82,7 @@ first2 = record (device (codes "m3") P 3 0 1) { keeper = true }
 gates : HasGivenGates circuit
 gates = record {
   ranges = record {
-    devices = All-cons (IsDevice circuit) first0 (first1 ∷ first2 ∷ []) (fits circuit first0 (omega arith) (omega arith) (omega arith) (omega arith) (omega arith)) (All-cons (IsDevice circuit) first1 (first2 ∷ []) (fits circuit first1 (omega arith) (omega arith) (omega arith) (omega arith) (omega arith)) (All-cons (IsDevice circuit) first2 ([]) (fits circuit first2 (omega arith) (omega arith) (omega arith) (omega arith) (omega arith)) (All-nil (IsDevice circuit))));
+    devices = All-cons (IsDevice circuit) first0 (first1 ∷ first2 ∷ []) (fits circuit first0 (omega arith) (omega arith) (omega arith) (omega arith, omega arith)) (All-cons (IsDevice circuit) first1 (first2 ∷ []) (fits circuit first1 (omega arith) (omega arith) (omega arith) (omega arith, omega arith)) (All-cons (IsDevice circuit) first2 ([]) (fits circuit first2 (omega arith) (omega arith) (omega arith) (omega arith, omega arith)) (All-nil (IsDevice circuit))));
     holds = All-nil (IsHold circuit);
     wholes = All-nil (IsWhole circuit);
   };

@@ -14,7 +14,7 @@ use Rattle.vrt_model.specs.Comparison.{Comparison, is_observed, tied_inputs}
 use Rattle.vrt_model.specs.Constraints.{Meets}
 use Rattle.vrt_model.specs.Covers.{cover_bit}
 use Rattle.vrt_model.specs.Faults.{Assigns, WantsValue}
-use Rattle.vrt_model.specs.FlatBlif.{all_models, flat_model_of, signals_of}
+use Rattle.vrt_model.specs.FlatBlif.{all_models, flat_model_of, network_names, signals_of, unrolled_of}
 use Rattle.vrt_model.specs.FlatCircuit.{flat_circuit_of}
 use Rattle.vrt_model.specs.Groups.{groups_of}
 use Rattle.vrt_model.specs.Held.{setting_of}
@@ -76,12 +76,12 @@ cell = record {
   cell = 0;
   pairing = record { model = 0; ports = Input 0 ∷ Input 1 ∷ []; clocked = [] };
   circuit = circuit;
-  model = record { signals = codes "d" ∷ codes "e" ∷ codes "q" ∷ []; inputs = 0 ∷ 1 ∷ []; clocks = []; outputs = []; covers = []; latches = the_latch ∷ [] };
+  model = record { signals = codes "d" ∷ codes "e" ∷ codes "q" ∷ []; inputs = 0 ∷ 1 ∷ []; clocks = []; outputs = []; covers = []; latches = the_latch ∷ []; dontcares = [] };
   groups = record { members = record { hold = 0; inverted = true } ∷ []; element = Some 0 } ∷ [];
 }
 
 cell_is : comparison_of design (record { models = model_of (codes "n") (codes "d" ∷ codes "e" ∷ []) [] [] (record { line = 3; input = codes "d"; output = codes "q"; kind = Some Ah; control = Some (codes "e"); init = 3 } ∷ []) [] ∷ [] }) rules 0 0 ≡ cell
-unfolding flat_circuit_of all_places net_at own_nets global_nets flat_model_of all_models signals_of pairing_of groups_of
+unfolding flat_circuit_of all_places net_at own_nets global_nets flat_model_of unrolled_of network_names all_models signals_of pairing_of groups_of
 cell_is = refl
 
 abbrev first0 : Device
@@ -90,7 +90,7 @@ first0 = device (codes "m1") N 2 3 4
 gates : HasGivenGates circuit
 gates = record {
   ranges = record {
-    devices = All-cons (IsDevice circuit) first0 ([]) (fits circuit first0 (omega arith) (omega arith) (omega arith) (omega arith) (omega arith)) (All-nil (IsDevice circuit));
+    devices = All-cons (IsDevice circuit) first0 ([]) (fits circuit first0 (omega arith) (omega arith) (omega arith) (omega arith, omega arith)) (All-nil (IsDevice circuit));
     holds = All-cons (IsHold circuit) the_hold [] (record { net = omega arith; size = (omega arith, omega arith); end = tt }) (All-nil (IsHold circuit));
     wholes = All-nil (IsWhole circuit);
   };

@@ -13,7 +13,7 @@ use Rattle.vrt_model.specs.Comparison.{Comparison, is_observed, tied_inputs}
 use Rattle.vrt_model.specs.Constraints.{Meets}
 use Rattle.vrt_model.specs.Covers.{cover_bit}
 use Rattle.vrt_model.specs.Faults.{NeverKeeps, Assigns, Responds}
-use Rattle.vrt_model.specs.FlatBlif.{all_models, flat_model_of, signals_of}
+use Rattle.vrt_model.specs.FlatBlif.{all_models, flat_model_of, network_names, signals_of, unrolled_of}
 use Rattle.vrt_model.specs.FlatCircuit.{flat_circuit_of}
 use Rattle.vrt_model.specs.Groups.{groups_of}
 use Rattle.vrt_model.specs.Held.{setting_of}
@@ -71,12 +71,12 @@ cell = record {
   cell = 0;
   pairing = record { model = 0; ports = Output 0 ∷ []; clocked = [] };
   circuit = circuit;
-  model = record { signals = codes "y" ∷ []; inputs = []; clocks = []; outputs = 0 ∷ []; covers = record { inputs = []; output = 0; on = true; rows = [] ∷ [] } ∷ []; latches = [] };
+  model = record { signals = codes "y" ∷ []; inputs = []; clocks = []; outputs = 0 ∷ []; covers = record { inputs = []; output = 0; on = true; rows = [] ∷ [] } ∷ []; latches = []; dontcares = [] };
   groups = record { members = record { hold = 0; inverted = false } ∷ []; element = None } ∷ [];
 }
 
 cell_is : comparison_of design (record { models = model_of (codes "u") [] (codes "y" ∷ []) (cover [] (codes "y") true ([] ∷ []) ∷ []) [] [] ∷ [] }) rules 0 0 ≡ cell
-unfolding flat_circuit_of all_places net_at own_nets global_nets flat_model_of all_models signals_of pairing_of groups_of
+unfolding flat_circuit_of all_places net_at own_nets global_nets flat_model_of unrolled_of network_names all_models signals_of pairing_of groups_of
 cell_is = refl
 
 abbrev first0 : Device
@@ -85,7 +85,7 @@ first0 = record (device (codes "m1") N 2 1 0) { level = 4; keeper = true }
 gates : HasGivenGates circuit
 gates = record {
   ranges = record {
-    devices = All-cons (IsDevice circuit) first0 ([]) (fits circuit first0 (omega arith) (omega arith) (omega arith) (omega arith) (omega arith)) (All-nil (IsDevice circuit));
+    devices = All-cons (IsDevice circuit) first0 ([]) (fits circuit first0 (omega arith) (omega arith) (omega arith) (omega arith, omega arith)) (All-nil (IsDevice circuit));
     holds = All-cons (IsHold circuit) the_hold [] (record { net = omega arith; size = (omega arith, omega arith); end = omega arith }) (All-nil (IsHold circuit));
     wholes = All-nil (IsWhole circuit);
   };

@@ -1,7 +1,7 @@
 -- What is needed to show that a fault of a small cell stands at a valuation, where all gates of the cell are nets with
 -- given values. The faults themselves are those of the files whose names end in `Shown`: of kinds that no row of the programs
 -- can show yet. No contract cites them.
-use Rattle.std.proofs.Common.{◌≡◌, ℕ, ◌<◌, ◌≤◌, Bool, true, false, List, [], ◌∷◌, Option, Some, length, refl}
+use Rattle.std.proofs.Common.{◌≡◌, ℕ, ◌<◌, Bool, true, false, List, [], ◌∷◌, Option, Some, length, refl}
 use Rattle.vrt_model.proofs.Cells.{gnd, vdd}
 use Rattle.vrt_model.proofs.FirstFinding.{found}
 use Rattle.vrt_model.proofs.GatesGiven.{HasGivenGates, always_responds, base_reading, shown, shown_is_solution, solution_shows, state_from}
@@ -11,6 +11,7 @@ use Rattle.vrt_model.specs.Comparison.{Comparison, is_observed, phase_at}
 use Rattle.vrt_model.specs.Constraints.{Meets, given_bit}
 use Rattle.vrt_model.specs.Faults.{Assigns, Responds, Solves, Stands}
 use Rattle.vrt_model.specs.Held.{setting_of}
+use Rattle.vrt_model.specs.Levels.{IsDeviceLevel}
 use Rattle.vrt_model.specs.Lists.{bit_at}
 use Rattle.vrt_model.specs.Path.{Network}
 use Rattle.vrt_model.specs.Places.{IsFinding}
@@ -78,12 +79,12 @@ device name kind left gate right =
     record { name = name; kind = kind; gate = record { 0 = gate }; left = record { 0 = left }; right = record { 0 = right }; level = 6; keeper = false }
 
 abbrev pub circuit_of : List FlatNet → List Device → List Hold → Circuit
-circuit_of nets devices holds = record { nets = nets; devices = devices; holds = holds; instances = []; wholes = [] }
+circuit_of nets devices holds = record { nets = nets; devices = devices; holds = holds; instances = []; wholes = []; source = 8 }
 
 abbrev pub bits_of : List Bool → List Bool → Assignment
 bits_of signals elements = record { signal = bit_at signals; next = bit_at elements }
 
 -- a device whose numbers are in range
 module _ (c : Circuit) (d : Device) where
-  pub fits : d.gate.0 < length c.nets → d.left.0 < length c.nets → d.right.0 < length c.nets → 4 ≤ d.level → d.level ≤ 7 → IsDevice c d
-  fits gate left right low high = record { gate = gate; left = left; right = right; level = (low, high) }
+  pub fits : d.gate.0 < length c.nets → d.left.0 < length c.nets → d.right.0 < length c.nets → IsDeviceLevel c d.level → IsDevice c d
+  fits gate left right level = record { gate = gate; left = left; right = right; level = level }

@@ -12,6 +12,8 @@ use Rattle.vrt_model.proofs.Members.{all_among, at_none}
 use Rattle.vrt_model.proofs.Networks.{given_source, network_finite, network_levels}
 use Rattle.vrt_model.proofs.SameNetwork.{IsPartOf, response_same}
 use Rattle.vrt_model.proofs.Tests.{option_same}
+use Rattle.vrt_model.proofs.Scales.{least_below}
+use Rattle.vrt_model.specs.Levels.{source_level}
 use Rattle.vrt_model.specs.Circuits.{IsHold}
 use Rattle.vrt_model.specs.Constraints.{given_bit, given_by_kind}
 use Rattle.vrt_model.specs.Lists.{At, Among}
@@ -146,16 +148,16 @@ module _ (c : Circuit) (phase : Phase) (good : HasGivenGates c) (setting : Setti
       source = given_source c bare setting.held s good.ranges n g.0 g.1 g.2
 
       here : Reaches (network_of c bare setting.held s) n (s.reading n)
-      here = (record { net = n; level = 8; value = s.reading n }, [], inl (g.0, g.1, g.2, refl, refl), source_strength (network_of c bare setting.held s) levels n source, refl, refl)
+      here = (record { net = n; level = source_level c; value = s.reading n }, [], inl (g.0, g.1, g.2, refl, refl), source_strength (network_of c bare setting.held s) levels n source, refl, refl)
 
       -- the root of a path of the source level is the net itself
       own_value : (root : Root) → IsRoot (network_of c bare setting.held s) root → root.net ≡ n → IsStrength (network_of c bare setting.held s) root.net root.level → root.value ≡ s.reading n
       own_value root r e strong =
-          let top : 8 ≤ root.level = strong.0 (record { net = n; level = 8; value = s.reading n }) [] (inl (g.0, g.1, g.2, refl, refl)) (sym e) in
+          let top : source_level c ≤ root.level = strong.0 (record { net = n; level = source_level c; value = s.reading n }) [] (inl (g.0, g.1, g.2, refl, refl)) (sym e) in
           elim r [
             | inl h ↦ h.4 ∙ ap s.reading e
             | inr other ↦ elim other [
-              | inl h ↦ absurd (let is = h.4 in let le = (all_among (IsHold c) c.holds h.1 good.ranges.holds (h.0, h.2)).size.1 in omega (arith, top, is, le))
+              | inl h ↦ absurd (let is = h.4 in let le = (all_among (IsHold c) c.holds h.1 good.ranges.holds (h.0, h.2)).size.1 in let below = least_below c in omega (arith, top, is, le, below))
               | inr o ↦ absurd (no_output bare s o.0 o.1 o.2)
             ]
           ]
@@ -233,7 +235,7 @@ module _ (c : Circuit) (phase : Phase) (good : HasGivenGates c) (setting : Setti
 
     -- the response of each net in that state
     pub response_at : (n : ℕ) → (r : Response) × IsResponse (network_of c true setting.held given_state) n r
-    response_at n = some_response (network_of c true setting.held given_state) (length c.nets) 8 (network_finite c true setting.held given_state good.ranges) n
+    response_at n = some_response (network_of c true setting.held given_state) (length c.nets) (source_level c) (network_finite c true setting.held given_state good.ranges) n
 
     pub shown : ℕ → Option Bool
     shown n = shown_by (response_at n).0

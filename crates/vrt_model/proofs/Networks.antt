@@ -7,6 +7,8 @@ use Rattle.vrt_model.specs.Networks.{IsFinite, HasLevels, IsSource, HasBound, Ha
 use Rattle.vrt_model.proofs.Filtered.{device_among}
 use Rattle.vrt_model.proofs.Members.{all_among, among_flat_map, among_map}
 use Rattle.vrt_model.specs.Circuits.{IsDevice, IsDrive, IsFlat, IsHold, IsNet, IsWhole}
+use Rattle.vrt_model.proofs.Scales.{least_below}
+use Rattle.vrt_model.specs.Levels.{source_level}
 use Rattle.vrt_model.specs.Lists.{At, Among}
 use Rattle.vrt_model.specs.Path.{IsOn, IsRoot, Root, level_of_drive}
 use Rattle.vrt_model.specs.Reading.{is_given}
@@ -34,7 +36,7 @@ flat_ranges c flat = record {
 pub flat_outputs : (c : Circuit) (bare : Bool) (held : ℕ → Bool) (s : State) → c.wholes ≡ [] → (network_of c bare held s).outputs ≡ []
 flat_outputs c bare held s flat = ap (λ (ws : List Whole). map (λ (out : OutputPin). out.pin) (output_pins (record c { wholes = ws }))) flat
 
-drive_most : (c : Circuit) (drive : Drive) → IsDrive c drive → level_of_drive 8 drive ≤ 8
+drive_most : (c : Circuit) (drive : Drive) → IsDrive c drive → level_of_drive (source_level c) drive ≤ source_level c
 drive_most c Soft fits = omega arith
 drive_most c (Level level) fits = let le = fits.1 in omega (arith, le)
 
@@ -42,7 +44,7 @@ module _ (c : Circuit) (bare : Bool) (held : ℕ → Bool) (s : State) (good : H
   device_is : (d : Device) → IsOn (network_of c bare held s) d → IsDevice c d
   device_is d on = all_among (IsDevice c) c.devices d good.devices (device_among bare c d on.0).0
 
-  pin_is : (pin : WholePin) → Among (network_of c bare held s).outputs pin → IsNet c pin.net × (level_of_drive 8 pin.drive ≤ 8)
+  pin_is : (pin : WholePin) → Among (network_of c bare held s).outputs pin → IsNet c pin.net × (level_of_drive (source_level c) pin.drive ≤ source_level c)
   pin_is pin m =
       let out = among_map (λ (o : OutputPin). o.pin) (output_pins c) pin m in
       let from = among_flat_map (λ (w : Whole). map (λ (p : WholePin). let one : OutputPin = record { whole = w; pin = p } in one) w.outputs) c.wholes out.0 out.1 in
@@ -51,19 +53,19 @@ module _ (c : Circuit) (bare : Bool) (held : ℕ → Bool) (s : State) (good : H
       let same : here.0 ≡ pin = ap (λ (o : OutputPin). o.pin) here.2 ∙ out.2 in
       let is = all_among (IsWhole c) c.wholes whole good.wholes from.1 in
       let fits = all_among (λ (p : WholePin). IsNet c p.net × (p.signal < length whole.model.signals) × IsDrive c p.drive) whole.outputs here.0 is.outputs here.1 in
-      subst (λ (p : WholePin). IsNet c p.net × (level_of_drive 8 p.drive ≤ 8)) same (fits.0, drive_most c here.0.drive fits.2)
+      subst (λ (p : WholePin). IsNet c p.net × (level_of_drive (source_level c) p.drive ≤ source_level c)) same (fits.0, drive_most c here.0.drive fits.2)
 
-  root_is : (root : Root) → IsRoot (network_of c bare held s) root → (root.net < length c.nets) × (root.level ≤ 8)
+  root_is : (root : Root) → IsRoot (network_of c bare held s) root → (root.net < length c.nets) × (root.level ≤ source_level c)
   root_is root r =
       elim r [
-        | inl g ↦ (slice_get_within c.nets root.net g.0 g.1, (let is : root.level ≡ 8 = g.3 in omega (arith, is)))
+        | inl g ↦ (slice_get_within c.nets root.net g.0 g.1, (let is : root.level ≡ source_level c = g.3 in omega (arith, is)))
         | inr other ↦ elim other [
           | inl h ↦
               let fits = all_among (IsHold c) c.holds h.1 good.holds (h.0, h.2) in
-              (subst (λ (n : ℕ). n < length c.nets) (sym h.3) fits.net, (let le = fits.size.1 in let is = h.4 in omega (arith, le, is)))
+              (subst (λ (n : ℕ). n < length c.nets) (sym h.3) fits.net, (let le = fits.size.1 in let is = h.4 in let below = least_below c in omega (arith, le, is, below)))
           | inr o ↦
               let fits = pin_is o.1 (o.0, o.2) in
-              (subst (λ (n : ℕ). n < length c.nets) (sym o.3) fits.0, subst (λ (l : ℕ). l ≤ 8) (sym o.4) fits.1)
+              (subst (λ (n : ℕ). n < length c.nets) (sym o.3) fits.0, subst (λ (l : ℕ). l ≤ source_level c) (sym o.4) fits.1)
         ]
       ]
 
@@ -73,7 +75,7 @@ module _ (c : Circuit) (bare : Bool) (held : ℕ → Bool) (s : State) (good : H
     hops = λ m n d on j. let is = device_is d on in elim j [ inl q ↦ subst (λ (x : ℕ). x < length c.nets) q.1 is.right | inr q ↦ subst (λ (x : ℕ). x < length c.nets) q.0 is.left ];
   }
 
-  pub network_finite : IsFinite (network_of c bare held s) (length c.nets) 8
+  pub network_finite : IsFinite (network_of c bare held s) (length c.nets) (source_level c)
   network_finite = record { bounded = network_bound; most = λ root r. (root_is root r).1 }
 
   pub network_levels : HasLevels (network_of c bare held s)
@@ -84,4 +86,4 @@ module _ (c : Circuit) (bare : Bool) (held : ℕ → Bool) (s : State) (good : H
 
   -- a net with a given value is a root of the source level
   pub given_source : (n : ℕ) (net : FlatNet) → At c.nets n net → is_given net.kind ≡ true → IsSource (network_of c bare held s) n
-  given_source n net e g = (record { net = n; level = 8; value = s.reading n }, inl (net, e, g, refl, refl), refl, refl)
+  given_source n net e g = (record { net = n; level = source_level c; value = s.reading n }, inl (net, e, g, refl, refl), refl, refl)

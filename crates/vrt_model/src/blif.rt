@@ -39,6 +39,8 @@ pub struct BlifModel {
     pub latches: Seq<LatchLine>,
     /// The sub-models, in the order of the `.subckt` cards.
     pub subs: Seq<SubLine>,
+    /// The covers of the don't-care network behind the `.exdc` card, in the order of the cards.
+    pub exdc: Seq<CoverLine>,
 }
 
 /// By hand, so that letting go of one is a call.
@@ -56,6 +58,7 @@ impl Drop for BlifModel {
             covers: _covers,
             latches: _latches,
             subs: _subs,
+            exdc: _exdc,
         } = self;
     }
 }

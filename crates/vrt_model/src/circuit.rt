@@ -1,5 +1,8 @@
 //! A flat circuit.
 
+ghost use Rattle.std.specs.Prelude.{◌≡◌};
+ghost use Rattle.vrt_model.specs.Levels.{source_level};
+
 use crate::{ClockRef, Kind, Net, Seq, Text, Whole};
 
 /// What gives a net its value.
@@ -149,6 +152,8 @@ pub struct Circuit {
     pub instances: Seq<FlatInstance>,
     /// The instances left whole, whose models drive their outputs.
     pub wholes: Seq<Whole>,
+    /// The level of supplies, inputs and clock ports: 8, or 15 at scale 16.
+    pub source: u8,
 }
 
 /// By hand, so that letting go of one is a call.
@@ -160,6 +165,16 @@ impl Drop for Circuit {
             holds: _holds,
             instances: _instances,
             wholes: _wholes,
+            source: _source,
         } = self;
+    }
+}
+
+impl Circuit {
+    /// The level of supplies, inputs and clock ports.
+    pub fn source_level(&self) -> u8
+        ensures { result ≡ source_level self.now }
+    {
+        if self.source == 15 { 15 } else { 8 }
     }
 }

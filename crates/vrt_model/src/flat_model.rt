@@ -16,6 +16,8 @@ pub struct FlatModel {
     pub covers: Seq<Cover>,
     /// The latches, in the same order of models.
     pub latches: Seq<FlatLatch>,
+    /// Which outputs have a don't-care bit, at most one for each, in the order of the `.outputs` cards.
+    pub dontcares: Seq<DontCare>,
 }
 
 /// By hand, so that letting go of one is a call.
@@ -28,6 +30,7 @@ impl Drop for FlatModel {
             outputs: _outputs,
             covers: _covers,
             latches: _latches,
+            dontcares: _dontcares,
         } = self;
     }
 }
@@ -67,4 +70,13 @@ pub struct FlatLatch {
     pub kind: LatchKind,
     /// The number of the signal that clocks the latch; none for the default clock.
     pub control: Option<u32>,
+}
+
+/// An output whose value does not matter where a bit is 1.
+#[derive(Clone, Copy, Debug, PartialEq, Eq)]
+pub struct DontCare {
+    /// The number of the output signal.
+    pub output: u32,
+    /// The number of the signal that is its don't-care bit.
+    pub bit: u32,
 }

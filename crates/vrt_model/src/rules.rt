@@ -1,5 +1,8 @@
 //! What a rules file says.
 
+ghost use Rattle.std.specs.Prelude.{◌≡◌};
+ghost use Rattle.vrt_model.specs.Levels.{source_of, usual_level};
+
 use crate::{Kind, Seq, Text};
 
 /// A clock, and whether it is carried inverted.
@@ -405,6 +408,8 @@ pub struct Rules {
     pub observes: Seq<ObserveRule>,
     /// What holds of the inputs of cells.
     pub assumes: Seq<AssumeRule>,
+    /// The scale of levels: 8, or 16.
+    pub scale: u8,
 }
 
 /// By hand, so that letting go of one is a call.
@@ -427,6 +432,23 @@ impl Drop for Rules {
             enters: _enters,
             observes: _observes,
             assumes: _assumes,
+            scale: _scale,
         } = self;
+    }
+}
+
+impl Rules {
+    /// The level of supplies, inputs and clock ports.
+    pub fn source_level(&self) -> u8
+        ensures { result ≡ source_of self.now }
+    {
+        if self.scale == 16 { 15 } else { 8 }
+    }
+
+    /// The level of a device for which no rule has one.
+    pub fn usual_level(&self) -> u8
+        ensures { result ≡ usual_level self.now }
+    {
+        if self.scale == 16 { 10 } else { 6 }
     }
 }

@@ -95,7 +95,7 @@ module _ (cut : Cut) (blif : Blif) (facts : List CellFacts) (read : AreRead blif
   supported_by : (cell m : ℕ) → IsAllowed cut.top blif facts cell m → (n : ℕ) × IsSupported cut.top.design blif cut.top.rules cell n
   supported_by cell m allowed =
       let k = comparison_of cut.top.design blif cut.top.rules cell m in
-      let three = and_parts (has_fact (λ (f : CellFacts). f.equal && f.stateless) facts cell && names_no_global cut.top cell && observes_outputs k) (keeps_inputs_free k) allowed in
+      let three = and_parts (has_fact (λ (f : CellFacts). f.equal && f.stateless) facts cell && names_no_global cut.top cell && observes_outputs k) (keeps_inputs_free k) allowed.0 in
       let two = and_parts (has_fact (λ (f : CellFacts). f.equal && f.stateless) facts cell && names_no_global cut.top cell) (observes_outputs k) three.0 in
       let one = and_parts (has_fact (λ (f : CellFacts). f.equal && f.stateless) facts cell) (names_no_global cut.top cell) two.0 in
       let fact = fact_of (λ (f : CellFacts). f.equal && f.stateless) facts cell one.0 in

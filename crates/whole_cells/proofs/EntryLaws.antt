@@ -8,6 +8,8 @@ use Rattle.phase_ports.proofs.RangeLaws.{ports_below}
 use Rattle.phase_ports.specs.Comparisons.{AreMarksOf, ArePortsWithin, IsOfCell}
 use Rattle.phase_ports.specs.Ports.{next_by, ports_by, supply_bit, unnamed}
 use Rattle.phase_ports.specs.declared.port_list.Port.{Port}
+use Rattle.vrt_model.specs.FlatBlif.{model_at}
+use Rattle.vrt_model.specs.Lists.{is_empty}
 use Rattle.whole_circuits.proofs.FlatLaws.{flat_parts}
 use Rattle.whole_circuits.specs.Pins.{AreDrivesOf, drive_at}
 use Rattle.whole_circuits.specs.WholeCells.{HasWholeCell}
@@ -114,6 +116,11 @@ module _ (design : Design) (blif : Blif) (rules : Rules) (cell m : ℕ) (own : O
 
 -- ---- entries
 
+-- a list without an item
+pub none_listed : {X : Type 0} (xs : List X) → is_empty xs ≡ true → xs ≡ []
+none_listed [] e = refl
+none_listed (x ∷ xs) e = absurd (false≢true e)
+
 module _ (design : Design) (blif : Blif) (rules : Rules) (facts : List CellFacts) (cell : ℕ) where
   abbrev t : Top
   t = top_before design rules cell
@@ -138,7 +145,7 @@ module _ (design : Design) (blif : Blif) (rules : Rules) (facts : List CellFacts
   -- nothing is told of it
   pub unknown_entry : known ≡ false → IsEntry t blif facts cell None
   unknown_entry untold m paired allowed =
-      false≢true (sym (ap (λ (b : Bool). b && names_no_global t cell && observes_outputs (of_model m) && keeps_inputs_free (of_model m)) untold) ∙ allowed)
+      false≢true (sym (ap (λ (b : Bool). b && names_no_global t cell && observes_outputs (of_model m) && keeps_inputs_free (of_model m)) untold) ∙ allowed.0)
 
   -- it pairs with no model
   pub unpaired_entry : None ≡ model_of_paired (paired_model design blif rules cell) → IsEntry t blif facts cell None
@@ -151,13 +158,18 @@ module _ (design : Design) (blif : Blif) (rules : Rules) (facts : List CellFacts
     -- it does not pass
     pub refused_entry : (free : Bool) → free ≡ passing m → free ≡ false → IsEntry t blif facts cell None
     refused_entry free is out n other allowed =
-        false≢true (sym out ∙ is ∙ sym (allowed_is m told) ∙ subst (λ (x : ℕ). IsAllowed t blif facts cell x) (sym (same_model n other)) allowed)
+        false≢true (sym out ∙ is ∙ sym (allowed_is m told) ∙ (subst (λ (x : ℕ). IsAllowed t blif facts cell x) (sym (same_model n other)) allowed).0)
+
+    -- its model has a don't-care network
+    pub networked_entry : is_empty (model_at blif m).exdc ≡ false → IsEntry t blif facts cell None
+    networked_entry some n other allowed =
+        false≢true (sym some ∙ ap is_empty (subst (λ (x : ℕ). IsAllowed t blif facts cell x) (sym (same_model n other)) allowed).1)
 
     -- it passes
-    pub passed_entry : (free : Bool) → free ≡ passing m → free ≡ true → (whole : WholeCell) → HasWholeCell (of_model m) whole → AreDrivesOf facts cell whole.drives → length whole.ports.items ≡ length (cell_at design cell).ports
+    pub passed_entry : (model_at blif m).exdc ≡ [] → (free : Bool) → free ≡ passing m → free ≡ true → (whole : WholeCell) → HasWholeCell (of_model m) whole → AreDrivesOf facts cell whole.drives → length whole.ports.items ≡ length (cell_at design cell).ports
         → IsEntry t blif facts cell (Some whole)
-    passed_entry free is past whole has drives count = record {
+    passed_entry cared free is past whole has drives count = record {
       cell = record { number = m; paired = paired; has = has; drives = drives };
-      allowed = λ n other. subst (λ (x : ℕ). IsAllowed t blif facts cell x) (same_model n other) (allowed_is m told ∙ sym is ∙ past);
+      allowed = λ n other. subst (λ (x : ℕ). IsAllowed t blif facts cell x) (same_model n other) (allowed_is m told ∙ sym is ∙ past, cared);
       ports = count;
     }

@@ -58,7 +58,7 @@ module _ (design : Design) (blif : Blif) (rules : Rules) (cell : ℕ) where
   -- an entry says of all facts only what is known of its cell
   entry_same : (facts other : List CellFacts) (entry : Option WholeCell) → slice_get facts cell ≡ slice_get other cell → IsEntry (top_before design rules cell) blif facts cell entry
       → IsEntry (top_before design rules cell) blif other cell entry
-  entry_same facts other None same is = λ m paired allowed. is m paired (subst (λ (known : Option CellFacts). AllowedBy known m) (sym same) allowed)
+  entry_same facts other None same is = λ m paired allowed. is m paired (subst (λ (known : Option CellFacts). AllowedBy known m) (sym same) allowed.0, allowed.1)
   entry_same facts other (Some own) same is = record {
     cell = record {
       number = is.cell.number;
@@ -66,7 +66,7 @@ module _ (design : Design) (blif : Blif) (rules : Rules) (cell : ℕ) where
       has = is.cell.has;
       drives = λ j. ap (λ (known : Option CellFacts). unwrap_or (option_and_then (λ (f : CellFacts). slice_get f.drives j) known) Soft) (sym same) ∙ is.cell.drives j;
     };
-    allowed = λ m paired. subst (λ (known : Option CellFacts). AllowedBy known m) same (is.allowed m paired);
+    allowed = λ m paired. (let may = is.allowed m paired in (subst (λ (known : Option CellFacts). AllowedBy known m) same may.0, may.1));
     ports = is.ports;
   }
 

@@ -1,5 +1,6 @@
 -- Which cells may have instances that are left whole, and what their instances have in common.
-use Rattle.std.specs.Prelude.{◌≡◌, ℕ, true, List, length, Option, Some, None}
+use Rattle.std.specs.Prelude.{◌≡◌, ℕ, true, List, [], length, Option, Some, None}
+use Rattle.vrt_model.specs.FlatBlif.{model_at}
 use Rattle.whole_circuits.specs.WholeCells.{IsWholeCell}
 use Rattle.whole_circuits.specs.declared.whole_cell.WholeCell.{WholeCell}
 use Rattle.vrt_model.specs.Checked.{is_cell_allowed}
@@ -13,9 +14,9 @@ use Rattle.vrt_model.specs.declared.design.Design.{Design}
 use Rattle.vrt_model.specs.declared.rules.Rules.{Rules}
 use Rattle.vrt_model.specs.declared.whole.CellFacts.{CellFacts}
 
--- instances of a cell that pairs with a model may be left whole
+-- instances of a cell that pairs with a model may be left whole: the cell allows it, and the model has no don't-care network
 abbrev pub IsAllowed : Top → Blif → List CellFacts → ℕ → ℕ → Type 0
-IsAllowed t blif facts cell m = is_cell_allowed t facts (comparison_of t.design blif t.rules cell m) ≡ true
+IsAllowed t blif facts cell m = (is_cell_allowed t facts (comparison_of t.design blif t.rules cell m) ≡ true) × ((model_at blif m).exdc ≡ [])
 
 -- the instances of a cell may be left whole, and have this in common
 pub record IsWholeEntry (t : Top) (blif : Blif) (facts : List CellFacts) (number : ℕ) (own : WholeCell) : Type 0 where

@@ -1,6 +1,6 @@
 //! What the instances of a cell have in common, if they may be left whole.
 
-ghost use Rattle.std.specs.Prelude.{◌≡◌, ◌&&◌, ◌<◌, length, map, true, IfOk};
+ghost use Rattle.std.specs.Prelude.{◌≡◌, ◌&&◌, ◌<◌, [], length, map, true, IfOk};
 ghost use Rattle.phase_ports.specs.Comparisons.{ArePortsWithin, IsOfCell};
 ghost use Rattle.phase_ports.specs.Ports.{unnamed};
 ghost use Rattle.prepared_tables.specs.Prepared.{ArePrepared};
@@ -9,8 +9,10 @@ ghost use Rattle.whole_circuits.specs.WholeCells.{HasWholeCell};
 ghost use Rattle.vrt_model.specs.Checked.{has_fact, keeps_inputs_free as keeps, names_no_global as names_none, observes_outputs as observes};
 ghost use Rattle.vrt_model.specs.Circuits.{IsCircuit, IsFlat};
 ghost use Rattle.vrt_model.specs.Comparison.{Comparison, cell_at, ports_of};
+ghost use Rattle.vrt_model.specs.FlatBlif.{model_at};
 ghost use Rattle.vrt_model.specs.FlatModels.{IsFlatModel};
 ghost use Rattle.vrt_model.specs.Inputs.{AreRules};
+ghost use Rattle.vrt_model.specs.Lists.{is_empty};
 ghost use Rattle.vrt_model.specs.PairedPorts.{HasRoles, Model, paired_model};
 ghost use Rattle.vrt_model.specs.Unsupported.{top_before};
 ghost use Rattle.vrt_model.specs.declared.whole.CellFacts.{CellFacts as FactsValue};
@@ -96,7 +98,18 @@ fn common(
     })
 }
 
-/// What the instances of a cell that pairs with a model have in common, if it passes the tests of its netlist.
+/// Whether a model has no don't-care network.
+#[tactic(auto, using(whole_circuits::proofs::LevelLaws::none_there))]
+fn has_no_network(blif: &Blif, model: u32) -> bool
+    ensures { result ≡ is_empty (model_at blif.now model).exdc }
+{
+    match blif.models.get(model as usize) {
+        Some(found) => found.exdc.is_empty(),
+        None => true,
+    }
+}
+
+/// What the instances of a cell that pairs with a model without a don't-care network have in common, if it passes the tests of its netlist.
 fn cell_with(
     alloc: Global,
     prepared: &Prepared,
@@ -111,6 +124,7 @@ fn cell_with(
     requires files { AreFiles design.now blif.now rules.now }
     requires there { cell < length design.now.cells }
     requires paired { paired_model design.now blif.now rules.now cell ≡ Model model }
+    requires cared { (model_at blif.now model).exdc ≡ [] }
     ensures { IfOk result (λ entry. has_fact (λ (f : FactsValue). f.equal && f.stateless) facts.now cell ≡ true → IsEntry (top_before design.now rules.now cell) blif.now facts.now cell entry) }
 {
     let index = &prepared.index;
@@ -127,8 +141,8 @@ fn cell_with(
 }
 
 /// What the instances of a cell have in common, if they may be left whole: the cell is told to be equal and without holds and
-/// latches, it names no global net, its outputs are observed in all phases, and no channel meets its inputs. A cell
-/// that is told so is flattened once, and its links take one search for each output and phase.
+/// latches, its model has no don't-care network, it names no global net, its outputs are observed in all phases, and no channel meets its
+/// inputs. A cell that is told so is flattened once, and its links take one search for each output and phase.
 pub fn whole_cell(
     alloc: Global,
     prepared: &Prepared,
@@ -147,7 +161,13 @@ pub fn whole_cell(
         return Ok(None);
     }
     match model_of_with(prepared, design, rules, cell) {
-        Some(model) => cell_with(alloc, prepared, design, blif, rules, facts, cell, model),
+        Some(model) => {
+            let cared = has_no_network(blif, model);
+            if !cared {
+                return Ok(None);
+            }
+            cell_with(alloc, prepared, design, blif, rules, facts, cell, model)
+        }
         None => Ok(None),
     }
 }

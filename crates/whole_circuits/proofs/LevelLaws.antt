@@ -1,9 +1,11 @@
 -- Counts of channels by levels, and the drives that bear them.
-use Rattle.std.proofs.Common.{◌≡◌, ℕ, zero, suc, ◌+◌, ◌-◌, ◌*◌, ◌<◌, ◌≤◌, ◌==◌, ◌&&◌, ◌||◌, Bool, true, false, List, [], ◌∷◌, length, replicate, arith, ap, refl, subst, sym, ◌∙◌, inl, inr}
+use Rattle.std.proofs.Common.{◌≡◌, ℕ, zero, suc, ◌+◌, ◌*◌, ◌<◌, ◌==◌, ◌||◌, Bool, true, false, List, [], ◌∷◌, length, replicate, arith, ap, refl, subst, sym, ◌∙◌, inl, inr}
 use Rattle.std.specs.List.{list_all, slice_index}
-use Rattle.std.proofs.lemmas.Bool.{and_from, and_parts, eq-eqb, eqb-true, false≢true, or_cases, or_left, or_right}
+use Rattle.std.proofs.lemmas.Bool.{and_from, and_parts, eq-eqb, eqb-true, false≢true, or_cases, or_left, or_right, cases_lt}
 use Rattle.std.proofs.lemmas.Bool.Decides.{nat_tests}
-use Rattle.whole_circuits.specs.Counts.{AreCounts, HaveLevels, bears, bears_all, bears_at, channels_of, is_of}
+use Rattle.vrt_model.proofs.Scales.{source_most}
+use Rattle.vrt_model.specs.Levels.{IsDeviceLevel}
+use Rattle.whole_circuits.specs.Counts.{AreCounts, HaveLevels, bears, bears_all, bears_at, channels_of, is_of, bears_below}
 use Rattle.vrt_model.proofs.Filtered.{among_kept, filter_among}
 use Rattle.vrt_model.proofs.Members.{among_later, at_none}
 use Rattle.vrt_model.proofs.Tables.{all_at}
@@ -44,8 +46,8 @@ nothing_counted (suc size) (suc e) = nothing_counted size e
 -- ---- drives
 
 -- a level of a device is that of one of the counts
-above : (level : ℕ) → (4 ≤ level) × (level ≤ 7) → (k : ℕ) × (k < 4) × (level ≡ 4 + k)
-above level range = let low = range.0 in let high = range.1 in (level - 4, omega (arith, low, high), omega (arith, low))
+below_sixteen : (c : Circuit) (level : ℕ) → IsDeviceLevel c level → level < 16
+below_sixteen c level range = let high = range.1 in let most = source_most c in omega (arith, high, most)
 
 module _ (c : Circuit) (devices : List Device) (count : ℕ) (counts : List ℕ) (levels : HaveLevels c devices) (are : AreCounts count devices counts) (drive : Drive) (n : ℕ) (within : n < count) where
   abbrev at_net : Device → Bool
@@ -57,58 +59,53 @@ module _ (c : Circuit) (devices : List Device) (count : ℕ) (counts : List ℕ)
   abbrev Passes : ℕ → Type 0
   Passes k = bears_at counts drive n k ≡ true
 
-  -- the four counts
-  each : bears_all counts drive n ≡ true → (k : ℕ) → k < 4 → Passes k
-  each e k lt = by_number k lt
-    where
-      halves : ((bears_at counts drive n 0 && bears_at counts drive n 1) ≡ true) × ((bears_at counts drive n 2 && bears_at counts drive n 3) ≡ true)
-      halves = and_parts (bears_at counts drive n 0 && bears_at counts drive n 1) (bears_at counts drive n 2 && bears_at counts drive n 3) e
+  -- the counts below a level
+  each : (top : ℕ) → bears_below counts drive n top ≡ true → (k : ℕ) → k < top → Passes k
+  each zero e k lt = absurd (omega (arith, lt))
+  each (suc top) e k lt =
+      let both = and_parts (bears_below counts drive n top) (bears_at counts drive n top) e in
+      elim (cases_lt k top) [
+        | inl less ↦ each top both.0 k less
+        | inr more ↦ (let same : top ≡ k = omega (arith, lt, more) in subst Passes same both.1)
+      ]
 
-      by_number : (j : ℕ) → j < 4 → Passes j
-      by_number zero lt = (and_parts (bears_at counts drive n 0) (bears_at counts drive n 1) halves.0).0
-      by_number (suc zero) lt = (and_parts (bears_at counts drive n 0) (bears_at counts drive n 1) halves.0).1
-      by_number (suc (suc zero)) lt = (and_parts (bears_at counts drive n 2) (bears_at counts drive n 3) halves.1).0
-      by_number (suc (suc (suc zero))) lt = (and_parts (bears_at counts drive n 2) (bears_at counts drive n 3) halves.1).1
-      by_number (suc (suc (suc (suc j)))) lt = absurd (let no : ⊥ = omega (arith, lt) in no)
-
-  together : ((k : ℕ) → k < 4 → Passes k) → bears_all counts drive n ≡ true
-  together pass =
-      and_from (bears_at counts drive n 0 && bears_at counts drive n 1) (bears_at counts drive n 2 && bears_at counts drive n 3)
-      (and_from (bears_at counts drive n 0) (bears_at counts drive n 1) (pass 0 (omega arith)) (pass 1 (omega arith)))
-      (and_from (bears_at counts drive n 2) (bears_at counts drive n 3) (pass 2 (omega arith)) (pass 3 (omega arith)))
+  together : (top : ℕ) → ((k : ℕ) → k < top → Passes k) → bears_below counts drive n top ≡ true
+  together zero pass = refl
+  together (suc top) pass =
+      and_from (bears_below counts drive n top) (bears_at counts drive n top) (together top (λ k lt. pass k (omega (arith, lt)))) (pass top (omega arith))
 
   -- a device there has its level counted
-  to_device : ((k : ℕ) → k < 4 → Passes k) → (d : Device) → Among (channels_at devices n) d → borne d ≡ true
+  to_device : ((k : ℕ) → k < 16 → Passes k) → (d : Device) → Among (channels_at devices n) d → borne d ≡ true
   to_device pass d m =
-      elim (or_cases (slice_index counts (4 * n + k.0) == 0) (bears drive (4 + k.0)) (pass k.0 k.1)) [
-        | inl none ↦ absurd (false≢true (sym (ap (λ (x : ℕ). x == 0) (are n k.0 within k.1) ∙ some_there (channels_of (4 + k.0) devices n) d listed) ∙ none))
-        | inr is ↦ subst (λ (level : ℕ). bears drive level ≡ true) (sym k.2) is
+      elim (or_cases (slice_index counts (16 * n + d.level) == 0) (bears drive d.level) (pass d.level low)) [
+        | inl none ↦ absurd (false≢true (sym (ap (λ (x : ℕ). x == 0) (are n d.level within low) ∙ some_there (channels_of d.level devices n) d listed) ∙ none))
+        | inr is ↦ is
       ]
     where
       from : Among devices d × (at_net d ≡ true)
       from = filter_among at_net devices d m
 
-      k : (j : ℕ) × (j < 4) × (d.level ≡ 4 + j)
-      k = above d.level (levels d from.0)
+      low : d.level < 16
+      low = below_sixteen c d.level (levels d from.0)
 
-      listed : Among (channels_of (4 + k.0) devices n) d
-      listed = among_kept (is_of (4 + k.0) n) devices d from.0 (and_from (at_net d) (d.level == 4 + k.0) from.1 (eq-eqb d.level (4 + k.0) k.2))
+      listed : Among (channels_of d.level devices n) d
+      listed = among_kept (is_of d.level n) devices d from.0 (and_from (at_net d) (d.level == d.level) from.1 (eq-eqb d.level d.level refl))
 
   -- a count has a device, or is 0
-  to_count : list_all borne (channels_at devices n) ≡ true → (k : ℕ) → k < 4 → Passes k
-  to_count all k lt = by_list (channels_of (4 + k) devices n) refl
+  to_count : list_all borne (channels_at devices n) ≡ true → (k : ℕ) → k < 16 → Passes k
+  to_count all k lt = by_list (channels_of k devices n) refl
     where
-      by_list : (ds : List Device) → channels_of (4 + k) devices n ≡ ds → Passes k
+      by_list : (ds : List Device) → channels_of k devices n ≡ ds → Passes k
       by_list [] e =
           let zero_is : (0 == 0) ≡ true = grind (arith, nat_tests) in
-          or_left (slice_index counts (4 * n + k) == 0) (bears drive (4 + k)) (ap (λ (x : ℕ). x == 0) (are n k within lt ∙ ap (λ (ds : List Device). length ds) e) ∙ zero_is)
+          or_left (slice_index counts (16 * n + k) == 0) (bears drive k) (ap (λ (x : ℕ). x == 0) (are n k within lt ∙ ap (λ (ds : List Device). length ds) e) ∙ zero_is)
       by_list (d ∷ ds) e =
-          let listed : Among (channels_of (4 + k) devices n) d = subst (λ (xs : List Device). Among xs d) (sym e) (0, refl) in
-          let from = filter_among (is_of (4 + k) n) devices d listed in
-          let both = and_parts (at_net d) (d.level == 4 + k) from.1 in
-          or_right (slice_index counts (4 * n + k) == 0) (bears drive (4 + k))
-          (subst (λ (level : ℕ). bears drive level ≡ true) (eqb-true d.level (4 + k) both.1) (all_at borne (channels_at devices n) d all (among_kept at_net devices d from.0 both.0)))
+          let listed : Among (channels_of k devices n) d = subst (λ (xs : List Device). Among xs d) (sym e) (0, refl) in
+          let from = filter_among (is_of k n) devices d listed in
+          let both = and_parts (at_net d) (d.level == k) from.1 in
+          or_right (slice_index counts (16 * n + k) == 0) (bears drive k)
+          (subst (λ (level : ℕ). bears drive level ≡ true) (eqb-true d.level k both.1) (all_at borne (channels_at devices n) d all (among_kept at_net devices d from.0 both.0)))
 
   pub bears_is : bears_all counts drive n ≡ list_all borne (channels_at devices n)
   bears_is =
-      same_tests (bears_all counts drive n) (list_all borne (channels_at devices n)) (λ e. all_from borne (channels_at devices n) (to_device (each e))) (λ e. together (to_count e))
+      same_tests (bears_all counts drive n) (list_all borne (channels_at devices n)) (λ e. all_from borne (channels_at devices n) (to_device (each 16 e))) (λ e. together 16 (to_count e))

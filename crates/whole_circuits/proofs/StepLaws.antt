@@ -197,6 +197,7 @@ module _ (cut : Cut) (blif : Blif) (facts : List CellFacts) (i : ℕ) (p : Numbe
   passes : MayBeWhole (before cut i) blif facts i p m → Passes cut blif facts i p m flat d
   passes may = record {
     cell = may.cell;
+    cared = may.cared;
     outputs = record {
       plain = λ o among.
           let there = subst (λ (os : List OutputAt). Among os o) (sym own_is) among in
@@ -215,6 +216,7 @@ module _ (cut : Cut) (blif : Blif) (facts : List CellFacts) (i : ℕ) (p : Numbe
     place = here;
     paired = paired;
     cell = is.cell;
+    cared = is.cared;
     plain = λ o among.
         let free = is.outputs.plain o (subst (λ (os : List OutputAt). Among os o) own_is among) in
         (plain_from with_this blif facts flat flat_is o.pin.net.0 free.0, λ held. free.1 (held_to with_this blif facts flat flat_is o.pin.net.0 held));

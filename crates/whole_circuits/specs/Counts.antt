@@ -1,5 +1,5 @@
 -- How many channels end at nets, by the levels of their devices, and which drives bear them.
-use Rattle.std.specs.Prelude.{◌≡◌, ℕ, ◌+◌, ◌-◌, ◌*◌, ◌<◌, ◌==◌, Bool, true, false, ◌&&◌, ◌||◌, List, filter, length, nat_le}
+use Rattle.std.specs.Prelude.{◌≡◌, ℕ, zero, suc, ◌+◌, ◌-◌, ◌*◌, ◌<◌, ◌==◌, Bool, true, false, ◌&&◌, ◌||◌, List, filter, length, nat_le}
 use Rattle.std.specs.List.{slice_index}
 use Rattle.vrt_model.specs.Levels.{IsDeviceLevel}
 use Rattle.vrt_model.specs.Lists.{Among}
@@ -16,9 +16,9 @@ is_of level n d = ((d.left.0 == n) || (d.right.0 == n)) && (d.level == level)
 abbrev pub channels_of : ℕ → List Device → ℕ → List Device
 channels_of level devices n = filter (is_of level n) devices
 
--- of so many nets each has four counts: of the channels there of devices of level 4, 5, 6 and 7
+-- of so many nets each has sixteen counts: of the channels there of the devices of each level below 16
 abbrev pub AreCounts : ℕ → List Device → List ℕ → Type 0
-AreCounts count devices counts = (n k : ℕ) → n < count → k < 4 → slice_index counts (4 * n + k) ≡ length (channels_of (4 + k) devices n)
+AreCounts count devices counts = (n k : ℕ) → n < count → k < 16 → slice_index counts (16 * n + k) ≡ length (channels_of k devices n)
 
 -- a count with so many more, or with so many fewer
 abbrev pub changed : Bool → ℕ → ℕ → ℕ
@@ -28,7 +28,7 @@ changed false count k = count - k
 -- each count of a net is changed by so many
 abbrev pub AreChanged : Bool → (ℕ → ℕ → ℕ) → List ℕ → List ℕ → Type 0
 AreChanged more many old new =
-    (n k : ℕ) → k < 4 → 4 * n + k < length old → slice_index new (4 * n + k) ≡ changed more (slice_index old (4 * n + k)) (many n k)
+    (n k : ℕ) → k < 16 → 16 * n + k < length old → slice_index new (16 * n + k) ≡ changed more (slice_index old (16 * n + k)) (many n k)
 
 -- devices have levels of devices
 abbrev pub HaveLevels : Circuit → List Device → Type 0
@@ -41,10 +41,15 @@ abbrev pub bears : Drive → ℕ → Bool
 bears Soft level = false
 bears (Level most) level = nat_le level most
 
--- by the count of the k-th level at a net
+-- by the count of a level at a net
 abbrev pub bears_at : List ℕ → Drive → ℕ → ℕ → Bool
-bears_at counts drive n k = (slice_index counts (4 * n + k) == 0) || bears drive (4 + k)
+bears_at counts drive n level = (slice_index counts (16 * n + level) == 0) || bears drive level
 
--- by all four
+-- by the counts of all levels below one
+abbrev pub bears_below : List ℕ → Drive → ℕ → ℕ → Bool
+bears_below counts drive n zero = true
+bears_below counts drive n (suc level) = bears_below counts drive n level && bears_at counts drive n level
+
+-- by all counts of a net
 abbrev pub bears_all : List ℕ → Drive → ℕ → Bool
-bears_all counts drive n = (bears_at counts drive n 0 && bears_at counts drive n 1) && (bears_at counts drive n 2 && bears_at counts drive n 3)
+bears_all counts drive n = bears_below counts drive n 16

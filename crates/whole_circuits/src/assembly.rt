@@ -54,5 +54,6 @@ pub fn circuit_with(
         holds,
         instances,
         wholes,
+        source: flat.source,
     })
 }

@@ -62,6 +62,7 @@ pub(crate) fn copy_model(alloc: Global, model: &FlatModel) -> Result<FlatModel, 
     let clocks = copy_items(alloc, model.clocks.as_slice())?;
     let outputs = copy_items(alloc, model.outputs.as_slice())?;
     let latches = copy_items(alloc, model.latches.as_slice())?;
+    let dontcares = copy_items(alloc, model.dontcares.as_slice())?;
     let covers = copy_covers(alloc, model.covers.as_slice())?;
     let signals = copy_texts(alloc, model.signals.as_slice())?;
     Ok(FlatModel {
@@ -71,6 +72,7 @@ pub(crate) fn copy_model(alloc: Global, model: &FlatModel) -> Result<FlatModel, 
         outputs,
         covers,
         latches,
+        dontcares,
     })
 }
 

@@ -1,4 +1,4 @@
-//! How many channels end at each net: four counts for each net, one for each level of devices, 4 to 7.
+//! How many channels end at each net: sixteen counts for each net, one for each level below 16, which are all levels of devices at both scales.
 
 ghost use Rattle.std.specs.Prelude.{◌≡◌, ◌<◌, ◌&&◌, ◌||◌, ◌==◌, ◌+◌, ◌*◌, ℕ, IfOk, OnOk, cond, length, replicate};
 ghost use Rattle.std.specs.List.{slice_index};
@@ -51,19 +51,18 @@ pub(crate) fn count_place(counts: &mut Vec<usize>, more: bool, at: usize) -> Res
 /// Counts the end of a channel at a net in, or out, among those of its level.
 fn count_end(counts: &mut Vec<usize>, more: bool, net: u32, level: u8) -> Result<(), NoMemory>
     ensures len { OnOk result (length counts.new.items ≡ length counts.old.items) }
-    ensures is { OnOk result (AreChanged more (λ n k. cond (net == n && level == 4 + k) 1 0) counts.old.items counts.new.items) }
+    ensures is { OnOk result (AreChanged more (λ n k. cond (net == n && level == k) 1 0) counts.old.items counts.new.items) }
 {
-    if level < 4 || 7 < level {
+    if level >= 16 {
         return Ok(());
     }
-    let above = level - 4;
-    count_place(counts, more, 4 * net as usize + above as usize)
+    count_place(counts, more, 16 * net as usize + level as usize)
 }
 
 /// Counts the channel of a device in, or out, at the nets at which it ends.
 fn count_channel(counts: &mut Vec<usize>, more: bool, device: &Device) -> Result<(), NoMemory>
     ensures len { OnOk result (length counts.new.items ≡ length counts.old.items) }
-    ensures is { OnOk result (AreChanged more (λ n k. cond (is_of (4 + k) n device.now) 1 0) counts.old.items counts.new.items) }
+    ensures is { OnOk result (AreChanged more (λ n k. cond (is_of k n device.now) 1 0) counts.old.items counts.new.items) }
 {
     count_end(counts, more, device.left.0, device.level)?;
     if device.left.0 == device.right.0 {
@@ -79,7 +78,7 @@ pub fn count_channels(
     devices: &[Device],
 ) -> Result<(), NoMemory>
     ensures len { OnOk result (length counts.new.items ≡ length counts.old.items) }
-    ensures is { OnOk result (AreChanged more (λ n k. length (channels_of (4 + k) devices.now n)) counts.old.items counts.new.items) }
+    ensures is { OnOk result (AreChanged more (λ n k. length (channels_of k devices.now n)) counts.old.items counts.new.items) }
 {
     let mut rest = devices;
     'devices: while let Some((device, behind)) = rest.split_first() {
@@ -89,11 +88,11 @@ pub fn count_channels(
     Ok(())
 }
 
-/// Four counts for each net.
-fn four_times(count: usize) -> Result<usize, NoMemory>
-    ensures { IfOk result (λ size. size ≡ 4 * count) }
+/// Sixteen counts for each net.
+fn sixteen_times(count: usize) -> Result<usize, NoMemory>
+    ensures { IfOk result (λ size. size ≡ 16 * count) }
 {
-    match count.checked_mul(4) {
+    match count.checked_mul(16) {
         Some(size) => Ok(size),
         None => Err(NoMemory),
     }
@@ -105,10 +104,10 @@ pub fn channel_counts(
     count: usize,
     devices: &[Device],
 ) -> Result<Vec<usize>, NoMemory>
-    ensures len { IfOk result (λ counts. length counts.items ≡ 4 * count) }
+    ensures len { IfOk result (λ counts. length counts.items ≡ 16 * count) }
     ensures are { IfOk result (λ counts. AreCounts count devices.now counts.items) }
 {
-    let size = four_times(count)?;
+    let size = sixteen_times(count)?;
     let mut counts = no_counts(alloc, size)?;
     count_channels(&mut counts, true, devices)?;
     Ok(counts)
@@ -124,13 +123,12 @@ fn bears(drive: Drive, level: u8) -> bool
     }
 }
 
-/// Whether it may be at a net, as to the channels there of devices that are so far above level 4.
-fn bears_at(counts: &[usize], drive: Drive, net: u32, above: u8) -> bool
-    requires { above < 4 }
-    ensures { result ≡ bears_at counts.now drive net above }
+/// Whether it may be at a net, as to the channels there of devices of a level.
+fn bears_at(counts: &[usize], drive: Drive, net: u32, level: u8) -> bool
+    ensures { result ≡ bears_at counts.now drive net level }
 {
-    let none = count_at(counts, 4 * net as usize + above as usize) == 0;
-    let borne = bears(drive, 4 + above);
+    let none = count_at(counts, 16 * net as usize + level as usize) == 0;
+    let borne = bears(drive, level);
     none || borne
 }
 
@@ -138,15 +136,12 @@ fn bears_at(counts: &[usize], drive: Drive, net: u32, above: u8) -> bool
 pub(crate) fn bears_all(counts: &[usize], drive: Drive, net: u32) -> bool
     ensures { result ≡ bears_all counts.now drive net }
 {
-    let weak = both(
-        bears_at(counts, drive, net, 0),
-        bears_at(counts, drive, net, 1),
-    );
-    let strong = both(
-        bears_at(counts, drive, net, 2),
-        bears_at(counts, drive, net, 3),
-    );
-    both(weak, strong)
+    let mut all = true;
+    for level in 0..16u8 {
+        let here = bears_at(counts, drive, net, level);
+        all = both(all, here);
+    }
+    all
 }
 
 /// Both of two tests.

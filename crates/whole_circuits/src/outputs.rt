@@ -14,7 +14,7 @@ use vrt_model::{Circuit, WholePin};
 pub struct NetMarks {
     /// A mark for each net, set where it has a hold.
     pub held: Vec<bool>,
-    /// For each net four counts of the channels there that are not inside whole instances: of devices of level 4, 5, 6 and 7.
+    /// For each net sixteen counts of the channels there that are not inside whole instances, by the levels of their devices.
     pub channels: Vec<usize>,
     /// For each net what outputs of the other whole instances are there.
     pub taken: Vec<Taken>,

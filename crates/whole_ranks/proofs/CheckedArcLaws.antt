@@ -11,6 +11,7 @@ use Rattle.vrt_model.specs.CheckedParts.{checked_devices, checked_holds, checked
 use Rattle.vrt_model.specs.Comparison.{Comparison, output_signal, phase_at}
 use Rattle.vrt_model.specs.Cut.{Cut, NumberedPlace, whole_places}
 use Rattle.vrt_model.specs.Known.{HasArc, HasGateArc, IsTogether, Leads}
+use Rattle.vrt_model.specs.Levels.{source_of}
 use Rattle.vrt_model.specs.Lists.{Among, At}
 use Rattle.vrt_model.specs.PairedPorts.{Paired, Missing, Model, Skipped, paired_model}
 use Rattle.vrt_model.specs.Unsupported.{comparison_of}
@@ -49,19 +50,21 @@ module _ (cut : Cut) (blif : Blif) (facts : List CellFacts) where
       ap (λ (o : Option Whole). cons_option o (filter_map (whole_at cut blif facts) ps)) zip.0.whole
       ∙ ap (λ (xs : List Whole). unlinked_whole w ∷ xs) (wholes_unlinked ps ws zip.1)
 
-  abbrev circuit_of : List FlatNet → List Device → List Hold → List FlatInstance → List Whole → Circuit
-  circuit_of nets devices holds instances wholes = record { nets = nets; devices = devices; holds = holds; instances = instances; wholes = wholes }
+  abbrev circuit_of : List FlatNet → List Device → List Hold → List FlatInstance → List Whole → ℕ → Circuit
+  circuit_of nets devices holds instances wholes source = record { nets = nets; devices = devices; holds = holds; instances = instances; wholes = wholes; source = source }
 
   -- the circuit of the definitions is the circuit without its links
   circuit_is : (c : Circuit) → IsCircuitWith cut blif facts c → circuit_with cut blif facts ≡ unlinked c
   unfolding circuit_with
   circuit_is c is =
       let wholes = filter_map (whole_at cut blif facts) (whole_places cut) in
-      ap (λ (x : List FlatNet). circuit_of x (checked_devices cut) (checked_holds cut) (checked_instances cut) wholes) (sym is.nets)
-      ∙ ap (λ (x : List Device). circuit_of c.nets x (checked_holds cut) (checked_instances cut) wholes) (sym is.devices)
-      ∙ ap (λ (x : List Hold). circuit_of c.nets c.devices x (checked_instances cut) wholes) (sym is.holds)
-      ∙ ap (λ (x : List FlatInstance). circuit_of c.nets c.devices c.holds x wholes) (sym is.instances)
-      ∙ ap (circuit_of c.nets c.devices c.holds c.instances) (wholes_unlinked (whole_places cut) c.wholes is.wholes)
+      let level = source_of cut.top.rules in
+      ap (λ (x : List FlatNet). circuit_of x (checked_devices cut) (checked_holds cut) (checked_instances cut) wholes level) (sym is.nets)
+      ∙ ap (λ (x : List Device). circuit_of c.nets x (checked_holds cut) (checked_instances cut) wholes level) (sym is.devices)
+      ∙ ap (λ (x : List Hold). circuit_of c.nets c.devices x (checked_instances cut) wholes level) (sym is.holds)
+      ∙ ap (λ (x : List FlatInstance). circuit_of c.nets c.devices c.holds x wholes level) (sym is.instances)
+      ∙ ap (λ (x : List Whole). circuit_of c.nets c.devices c.holds c.instances x level) (wholes_unlinked (whole_places cut) c.wholes is.wholes)
+      ∙ ap (circuit_of c.nets c.devices c.holds c.instances (map unlinked_whole c.wholes)) (sym is.source)
 
   -- the cell of a whole instance pairs with a model
   paired_of : (p : NumberedPlace) (w : Whole) → IsWholeAt cut blif facts p w → (m : ℕ) × (paired_model cut.top.design blif cut.top.rules p.at.cell ≡ Model m)

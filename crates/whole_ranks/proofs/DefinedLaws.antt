@@ -20,6 +20,7 @@ use Rattle.vrt_model.proofs.Ranked.{plain_not_given}
 use Rattle.vrt_model.specs.Circuits.{IsDevice}
 use Rattle.vrt_model.specs.Constraints.{given_bit}
 use Rattle.vrt_model.specs.Known.{HasGateArc, IsChannel, IsPlain, IsRanking, IsTogether, IsUnknown, itself, onward}
+use Rattle.vrt_model.specs.Levels.{source_level}
 use Rattle.vrt_model.specs.Lists.{At}
 use Rattle.vrt_model.specs.Networks.{Covers, HasRanges}
 use Rattle.vrt_model.specs.Path.{IsOn, IsOutputRoot, Joins, Network, Root}
@@ -157,7 +158,7 @@ module _ (c : Circuit) (phase : Phase) (observed : ℕ → Bool) (setting : Sett
 
     pub responds : IsPlain c n → (r : Response) × AlwaysResponds c phase observed setting a true n r
     responds p =
-        let here = some_response (view state) (length c.nets) 8 (network_finite c true setting.held state ranges) n in (
+        let here = some_response (view state) (length c.nets) (source_level c) (network_finite c true setting.held state ranges) n in (
           here.0,
           λ t it agrees.
               response_inside (view state) (view t) (IsTogether c phase true n) (IsGiven c) (network_levels c true setting.held state ranges) (network_levels c true setting.held t ranges)

@@ -2,7 +2,7 @@
 -- and of the second at all others: an output has the same bit at the first two since the cell is equal and does not look at the nets that are
 -- not observed, and at the last two by the covers of the model.
 use Rattle.std.proofs.Common.{◌≡◌, ℕ, ◌<◌, ◌⊎◌, ◌||◌, ◌&&◌, Bool, true, false, not, cond, List, Option, Some, None, eqb, length, map, ap, subst, sym, refl, ◌∙◌, inl, inr}
-use Rattle.std.specs.Prelude.{is_some}
+use Rattle.std.specs.Prelude.{is_some, ◌==◌}
 use Rattle.std.specs.List.{list_any}
 use Rattle.std.proofs.lemmas.Bool.{cases_Bool, cond-false, cond-true, eq-eqb, false≢true, or_left}
 use Rattle.std.proofs.lemmas.Option.{none-some, same_Some}
@@ -15,7 +15,7 @@ use Rattle.vrt_model.specs.Comparison.{CellPort, Comparison, cell_at, is_observe
 use Rattle.vrt_model.specs.Constraints.{Meets}
 use Rattle.vrt_model.specs.Determined.{IsDetermined, IsLinkedTo}
 use Rattle.vrt_model.specs.Elements.{Numbered, numbered_from}
-use Rattle.vrt_model.specs.Faults.{Assigns, Solves}
+use Rattle.vrt_model.specs.Faults.{Assigns, Solves, is_free}
 use Rattle.vrt_model.specs.Held.{setting_of}
 use Rattle.vrt_model.specs.Lists.{Among, At}
 use Rattle.vrt_model.specs.State.{Setting, surroundings_of_whole}
@@ -24,6 +24,7 @@ use Rattle.vrt_model.specs.declared.circuit.Circuit.{Circuit}
 use Rattle.vrt_model.specs.declared.circuit.Device.{Device}
 use Rattle.vrt_model.specs.declared.circuit.FlatInstance.{FlatInstance}
 use Rattle.vrt_model.specs.declared.circuit.Hold.{Hold}
+use Rattle.vrt_model.specs.declared.flat_model.DontCare.{DontCare}
 use Rattle.vrt_model.specs.declared.flat_model.FlatLatch.{FlatLatch}
 use Rattle.vrt_model.specs.declared.flat_model.FlatModel.{FlatModel}
 use Rattle.vrt_model.specs.declared.ids.Net.{Net}
@@ -137,7 +138,11 @@ module _ (k : Comparison) (phase : ℕ) (c : Circuit) (observed : ℕ → Bool) 
   shows_signal bits a g meets solves assigns place port s out =
       same_options (a port.net) (Some (g.signal s)) (λ apart.
       (cell.equal.agree bits meets).no_fault a g solves assigns Differs place
-      (port.net, Some (g.signal s), (port, s, out.0, out.1, cell.seen place port s out, refl, refl), apart))
+      (port.net, Some (g.signal s), (port, s, out.0, out.1, cell.seen place port s out, asked, refl, refl), apart))
+    where
+      -- no output has a don't-care bit
+      asked : is_free k.model g s ≡ false
+      asked = ap (λ (ds : List DontCare). list_any (λ (d : DontCare). (d.output == s) && g.signal d.bit) ds) cell.cared
 
   -- the second reading has the bits of the first at observed nets
   module _ (r x : ℕ → Bool) (alike : (n : ℕ) → observed n ≡ true → r n ≡ x n) (g h : Assignment) (one : AssignsAt r g) (two : AssignsAt x h)

@@ -36,7 +36,7 @@ MeetsAllInputs k phase =
 abbrev pub IsOutputAt : Comparison → ℕ → CellPort → ℕ → Type 0
 IsOutputAt k place port s = At (ports_of k) place port × (output_signal port.role ≡ Some s)
 
--- a cell without latches, holds and whole instances that is equal in the phase; its inputs meet no channels, and its outputs are
+-- a cell without latches, holds, whole instances and don't-care bits that is equal in the phase; its inputs meet no channels, and its outputs are
 -- observed and are no inputs
 pub record IsLogicCell (k : Comparison) (phase : ℕ) : Type 0 where
   pub equal : IsPhaseEqual k phase
@@ -44,6 +44,7 @@ pub record IsLogicCell (k : Comparison) (phase : ℕ) : Type 0 where
   pub ranges : HasRanges k.circuit
   pub wholes : k.circuit.wholes ≡ []
   pub holds : k.circuit.holds ≡ []
+  pub cared : k.model.dontcares ≡ []
   pub inputs : (t : Tied) → Among (tied_inputs k) t → IsInputNet k.circuit t.net
   pub free : (n m : ℕ) (d : Device) → IsInputNet k.circuit n → Among (devices_of bare k.circuit) d → ¬ Joins d n m
   pub outputs : (place : ℕ) (port : CellPort) (s : ℕ) → IsOutputAt k place port s → (s < length k.model.signals) × (¬ IsTied (tied_inputs k) s)

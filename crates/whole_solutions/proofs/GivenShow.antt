@@ -8,8 +8,10 @@ use Rattle.vrt_model.proofs.Laws.{one_strength, shows_from}
 use Rattle.vrt_model.proofs.Members.{all_among}
 use Rattle.vrt_model.proofs.Networks.{given_source, network_levels}
 use Rattle.vrt_model.proofs.Ranked.{plain_not_given}
+use Rattle.vrt_model.proofs.Scales.{least_below}
 use Rattle.vrt_model.specs.Circuits.{IsHold}
 use Rattle.vrt_model.specs.Known.{IsPlain}
+use Rattle.vrt_model.specs.Levels.{source_level}
 use Rattle.vrt_model.specs.Networks.{HasLevels, HasRanges, IsSource}
 use Rattle.vrt_model.specs.Path.{Hop, IsPath, IsRoot, Network, Root, end_of}
 use Rattle.vrt_model.specs.Response.{IsClear, IsResponse, Reaches, Shows}
@@ -25,12 +27,12 @@ module _ (c : Circuit) (ranges : HasRanges c) (pins_plain : ArePinsPlain c) (bar
   levels = network_levels c bare held s ranges
 
   -- a root of the source level at a given net has the net's bit
-  pub root_value : (n : ℕ) → IsGiven c n → (root : Root) → IsRoot view root → root.net ≡ n → root.level ≡ 8 → root.value ≡ s.reading n
+  pub root_value : (n : ℕ) → IsGiven c n → (root : Root) → IsRoot view root → root.net ≡ n → root.level ≡ source_level c → root.value ≡ s.reading n
   root_value n g root r e top =
       elim r [
         | inl h ↦ h.4 ∙ ap s.reading e
         | inr other ↦ elim other [
-          | inl h ↦ absurd (let same = h.4 in let le = (all_among (IsHold c) c.holds h.1 ranges.holds (h.0, h.2)).size.1 in omega (arith, top, same, le))
+          | inl h ↦ absurd (let same = h.4 in let le = (all_among (IsHold c) c.holds h.1 ranges.holds (h.0, h.2)).size.1 in let below = least_below c in omega (arith, top, same, le, below))
           | inr o ↦
               let out = pin_found c o.0 o.1 o.2 in
               absurd (plain_not_given c n (subst (IsPlain c) (ap (λ (q : WholePin). q.net.0) out.2 ∙ sym o.3 ∙ e) (pins_plain out.0 (o.0, out.1))) g)
@@ -44,7 +46,7 @@ module _ (c : Circuit) (ranges : HasRanges c) (pins_plain : ArePinsPlain c) (bar
       source m e = subst (IsSource view) (sym e) (given_source c bare held s ranges n g.0 g.1 g.2)
 
       here : Reaches view n (s.reading n)
-      here = (record { net = n; level = 8; value = s.reading n }, [], inl (g.0, g.1, g.2, refl, refl), source_strength view levels n (source n refl), refl, refl)
+      here = (record { net = n; level = source_level c; value = s.reading n }, [], inl (g.0, g.1, g.2, refl, refl), source_strength view levels n (source n refl), refl, refl)
 
       only : (u : Bool) → Reaches view n u → u ≡ s.reading n
       only u (root, hops, p, clear, e, is) =
@@ -52,4 +54,4 @@ module _ (c : Circuit) (ranges : HasRanges c) (pins_plain : ArePinsPlain c) (bar
           let path : IsPath view root [] = subst (IsPath view root) none p in
           let strong : IsClear view root [] = subst (IsClear view root) none clear in
           let ends : root.net ≡ n = subst (λ (hs : List Hop). end_of root hs ≡ n) none e in
-          sym is ∙ root_value n g root path ends (one_strength view root.net root.level 8 strong (source_strength view levels root.net (source root.net ends)))
+          sym is ∙ root_value n g root path ends (one_strength view root.net root.level (source_level c) strong (source_strength view levels root.net (source root.net ends)))

@@ -13,6 +13,7 @@ use Rattle.vrt_model.proofs.Networks.{network_finite}
 use Rattle.vrt_model.proofs.Filtered.{among_devices, device_among}
 use Rattle.vrt_model.proofs.Locality.{fixed_given}
 use Rattle.vrt_model.specs.Known.{HasFixedBit, IsKnown, IsPlain, fixed, is_plain_at, settled}
+use Rattle.vrt_model.specs.Levels.{source_level}
 use Rattle.vrt_model.specs.Lists.{Among, At}
 use Rattle.vrt_model.specs.Reading.{clock_bit, devices_of}
 use Rattle.vrt_model.specs.Response.{Fight, Float, IsResponse, Response, Shows}
@@ -85,6 +86,7 @@ known_inside_is_solved cell c at exposed drive phase observed setting a ranges a
 in_itself : (cell : Circuit) → cell.holds ≡ [] → cell.wholes ≡ [] → ((d : Device) (n : ℕ) → Among cell.devices d → Touches d n → IsPlain cell n ⊎ ((value : Bool) × IsSupply cell n value))
     → IsPlaced cell cell (λ n. n) (λ n. false) (λ n. 0)
 in_itself cell no_holds no_wholes channels = record {
+  source = refl;
   no_holds = no_holds;
   no_wholes = no_wholes;
   channels = channels;
@@ -107,7 +109,7 @@ in_itself cell no_holds no_wholes channels = record {
 
 pub unknown_outputs_are_unsettled : UnknownOutputsAreUnsettled
 unknown_outputs_are_unsettled cell phase setting exposed s ranges no_holds no_wholes channels is gates unknown shows inside reading n set ins e =
-    let q = some_response (network_of cell true (λ place. false) (record { reading = reading; driven = λ place. false })) (length cell.nets) 8 (network_finite cell true (λ place. false) (record { reading = reading; driven = λ place. false }) ranges) n in
+    let q = some_response (network_of cell true (λ place. false) (record { reading = reading; driven = λ place. false })) (length cell.nets) (source_level cell) (network_finite cell true (λ place. false) (record { reading = reading; driven = λ place. false }) ranges) n in
     by_response q.0 q.1
   where
     there : (r : Response) → IsResponse (network_of cell true (λ place. false) (record { reading = reading; driven = λ place. false })) n r → IsResponse (network_of cell true setting.held s) n r

@@ -13,6 +13,7 @@ use Rattle.vrt_model.proofs.GatesGiven.{IsGiven, base_reading, given_once, plain
 use Rattle.vrt_model.proofs.Networks.{network_finite}
 use Rattle.vrt_model.specs.Constraints.{given_bit}
 use Rattle.vrt_model.specs.Known.{IsKnown, IsPlain, is_plain_at}
+use Rattle.vrt_model.specs.Levels.{source_level}
 use Rattle.vrt_model.specs.Reading.{HasGivenBit, IsReading, is_given}
 use Rattle.vrt_model.specs.Response.{Fight, Float, IsResponse, Response, Shows}
 use Rattle.vrt_model.specs.Solution.{Agrees, AlwaysResponds, IsSolution}
@@ -135,7 +136,7 @@ module _ (c : Circuit) (phase : Phase) (setting : Setting) (observed known : ℕ
         elim (given_or_plain c n (p.nets n seen)) [
           | inl g ↦ (given_bit c phase setting.inputs n, given_has n seen g)
           | inr plain ↦
-              let q = some_response (network_of c true setting.held state) (length c.nets) 8 (network_finite c true setting.held state p.ranges) n in
+              let q = some_response (network_of c true setting.held state) (length c.nets) (source_level c) (network_finite c true setting.held state p.ranges) n in
               by_response n seen (omega (arith, le, lt)) plain q.0
               (always n plain (λ m om under. bits_below bound (omega (arith, le)) m om (omega (arith, under, lt))) q.0 q.1)
         ]

@@ -17,6 +17,7 @@ use Rattle.vrt_model.proofs.Locality.{fixed_given}
 use Rattle.vrt_model.proofs.Members.{at_none}
 use Rattle.vrt_model.proofs.Networks.{given_source, network_finite, network_levels}
 use Rattle.vrt_model.specs.Known.{IsPlain, IsShut, is_plain_at}
+use Rattle.vrt_model.specs.Levels.{source_level}
 use Rattle.vrt_model.specs.Lists.{Among, At}
 use Rattle.vrt_model.specs.Networks.{Covers, HasLevels, HasRanges, IsFinite}
 use Rattle.vrt_model.specs.Path.{IsOn, IsRoot, Joins, Network, Root}
@@ -146,7 +147,7 @@ module _ (cell c : Circuit) (at : ℕ → ℕ) (exposed : ℕ → Bool) (drive :
       let all = network_levels cell true none_held cell_state ranges in
       record { roots = all.roots; devices = λ d on. all.devices d ((of_part d on).0, on.1) }
 
-  part_finite : IsFinite part (length cell.nets) 8
+  part_finite : IsFinite part (length cell.nets) (source_level cell)
   part_finite =
       let all = network_finite cell true none_held cell_state ranges in
       record {
@@ -163,7 +164,7 @@ module _ (cell c : Circuit) (at : ℕ → ℕ) (exposed : ℕ → Bool) (drive :
       record {
         value = s.reading (at n);
         alone = record {
-          root = record { net = n; level = 8; value = s.reading (at n) };
+          root = record { net = n; level = source_level cell; value = s.reading (at n) };
           is = inl (here.0, here.1, supply_given cell n value here, refl, refl);
           net = refl;
           level = refl;
@@ -171,7 +172,7 @@ module _ (cell c : Circuit) (at : ℕ → ℕ) (exposed : ℕ → Bool) (drive :
           only = λ other r e full. root_value cell ranges (λ out m. absurd (no_pin out m)) true none_held cell_state n (here.0, here.1, supply_given cell n value here) other r e full;
         };
         above = record {
-          root = record { net = at n; level = 8; value = s.reading (at n) };
+          root = record { net = at n; level = source_level c; value = s.reading (at n) };
           is = inl (there.0, there.1, supply_given c (at n) value there, refl, refl);
           net = refl;
           level = refl;
@@ -242,7 +243,7 @@ module _ (cell c : Circuit) (at : ℕ → ℕ) (exposed : ℕ → Bool) (drive :
 
   part_inside : IsInside part circuit_network at inside (λ n. false) drive
   part_inside = record {
-    source = refl;
+    source = placed.source;
     no_root = λ root r ins. no_root none_held cell_state root r ins;
     bounded = ends;
     there = on_there;

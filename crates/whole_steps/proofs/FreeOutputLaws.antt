@@ -8,9 +8,11 @@ use Rattle.vrt_model.proofs.Laws.{one_strength, shows_from}
 use Rattle.vrt_model.proofs.Lists.{at_map, map_at, one_at}
 use Rattle.vrt_model.proofs.Members.{all_among}
 use Rattle.vrt_model.proofs.Networks.{network_levels}
+use Rattle.vrt_model.proofs.Scales.{least_below}
 use Rattle.vrt_model.specs.Circuits.{IsHold}
 use Rattle.vrt_model.specs.FlatCircuit.{net_id}
 use Rattle.vrt_model.specs.Known.{IsPlain}
+use Rattle.vrt_model.specs.Levels.{source_level}
 use Rattle.vrt_model.specs.Lists.{At}
 use Rattle.vrt_model.specs.Networks.{HasLevels, HasRanges, IsSource}
 use Rattle.vrt_model.specs.Path.{Hop, IsPath, IsRoot, Network, Root, end_of, level_of_drive}
@@ -93,17 +95,17 @@ module _ (c : Circuit) (which : Bool) (held : ℕ → Bool) (s : State) (ranges 
   pin_here = map_at (λ (o : OutputPin). o.pin) (output_pins c) at out here
 
   abbrev root_here : Root
-  root_here = record { net = n; level = 8; value = s.driven at }
+  root_here = record { net = n; level = source_level c; value = s.driven at }
 
   is_root : IsRoot w root_here
-  is_root = inr (inr (at, out.pin, pin_here, refl, ap (λ (d : Drive). level_of_drive 8 d) (sym free.soft), refl))
+  is_root = inr (inr (at, out.pin, pin_here, refl, ap (λ (d : Drive). level_of_drive (source_level c) d) (sym free.soft), refl))
 
   -- it is a source
   pub output_source : IsSource w n
   output_source = (root_here, is_root, refl, refl)
 
   -- a root of the source level there is that of the output
-  one_value : (root : Root) → IsRoot w root → root.net ≡ n → root.level ≡ 8 → root.value ≡ s.driven at
+  one_value : (root : Root) → IsRoot w root → root.net ≡ n → root.level ≡ source_level c → root.value ≡ s.driven at
   one_value root from same top = elim from [
     | inl g ↦
         let net = free.plain in
@@ -115,7 +117,8 @@ module _ (c : Circuit) (which : Bool) (held : ℕ → Bool) (s : State) (ranges 
           let fits = all_among (IsHold c) c.holds h.1 ranges.holds (h.0, h.2) in
           let most = fits.size.1 in
           let is = h.4 in
-          absurd (omega (arith, most, is, top))
+          let below = least_below c in
+          absurd (omega (arith, most, is, top, below))
       | inr o ↦
           let from_pin = at_map (λ (q : OutputPin). q.pin) (output_pins c) o.0 o.1 o.2 in
           let net : out.pin.net.0 ≡ from_pin.0.pin.net.0 = sym same ∙ o.3 ∙ ap (λ (p : WholePin). p.net.0) (sym from_pin.2) in
@@ -129,13 +132,13 @@ module _ (c : Circuit) (which : Bool) (held : ℕ → Bool) (s : State) (ranges 
       let none = clear_from_source w levels r.0 r.1 r.2 r.3 (subst (IsSource w) (sym r.4) output_source) in
       let bare = bare_root w r.0 r.1 none r.2 r.3 in
       let net : r.0.net ≡ n = sym bare.1 ∙ r.4 in
-      let level = one_strength w n r.0.level 8 (subst (λ (m : ℕ). IsStrength w m r.0.level) net bare.2) (source_strength w levels n output_source) in
+      let level = one_strength w n r.0.level (source_level c) (subst (λ (m : ℕ). IsStrength w m r.0.level) net bare.2) (source_strength w levels n output_source) in
       sym r.5 ∙ one_value r.0 bare.0 net level
 
 pub free_outputs_show : FreeOutputsShow
 free_outputs_show c which held s ranges at out here free =
     shows_from (network_of c which held s) out.pin.net.0 (s.driven at) (
-      record { net = out.pin.net.0; level = 8; value = s.driven at },
+      record { net = out.pin.net.0; level = source_level c; value = s.driven at },
       [],
       is_root c which held s ranges at out here free,
       source_strength (network_of c which held s) (network_levels c which held s ranges) out.pin.net.0 (output_source c which held s ranges at out here free),

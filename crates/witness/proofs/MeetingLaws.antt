@@ -17,6 +17,7 @@ use Rattle.vrt_model.proofs.Networks.{flat_ranges, network_finite}
 use Rattle.vrt_model.specs.Circuits.{IsDevice, IsFlat}
 use Rattle.vrt_model.specs.Constraints.{given_bit}
 use Rattle.vrt_model.specs.Known.{HasRankArc, IsInPart, IsKnown, IsPlain, IsUnknown, itself as alone}
+use Rattle.vrt_model.specs.Levels.{source_level}
 use Rattle.vrt_model.specs.Lists.{At, Among}
 use Rattle.vrt_model.specs.Reading.{HasGivenBit, IsReading, devices_of, is_given}
 use Rattle.vrt_model.specs.Response.{Fight as FightThere, Float as FloatThere, IsResponse, Response, Shows}
@@ -194,7 +195,7 @@ module _ (c : Circuit) (phase : Phase) (flat : IsFlat c) (observed : ℕ → Boo
       → (r : Response) × At kept n (seen_of r) × ((s : State) × IsState c phase setting.inputs s × Agrees observed a s.reading × IsResponse (network_of c false setting.held s) n r)
   kept_some n lt same =
       let w = network_of c false setting.held shown_state in
-      let some = some_response w (length c.nets) 8 (network_finite c false setting.held shown_state (flat_ranges c flat)) n in
+      let some = some_response w (length c.nets) (source_level c) (network_finite c false setting.held shown_state (flat_ranges c flat)) n in
       (some.0, kept_is n some.0 lt same some.1, (solved_state, solved_is, solved_agrees, from_shown false n some.0 lt same solved_state solved_is solved_agrees some.1))
 
   -- ---- a net that neither fights nor floats has its bit in both
@@ -205,7 +206,7 @@ module _ (c : Circuit) (phase : Phase) (flat : IsFlat c) (observed : ℕ → Boo
   plain_same : (n : ℕ) → observed n ≡ true → n < length c.nets → IsCalm n → HasSameGates true n → IsOneBit (a n) (bits_shown bare n)
   plain_same n o lt calm same =
       let w = network_of c true setting.held shown_state in
-      let some = some_response w (length c.nets) 8 (network_finite c true setting.held shown_state (flat_ranges c flat)) n in
+      let some = some_response w (length c.nets) (source_level c) (network_finite c true setting.held shown_state (flat_ranges c flat)) n in
       pick some.0 (λ s is agrees. from_shown true n some.0 lt same s is agrees some.1)
     where
       pick : (r : Response) → AlwaysResponds c phase observed setting a true n r → IsOneBit (a n) (bits_shown bare n)

@@ -14,8 +14,10 @@ use Rattle.vrt_model.proofs.Laws.{shows_from}
 use Rattle.vrt_model.proofs.Members.{all_among, at_none}
 use Rattle.vrt_model.proofs.Networks.{flat_outputs, flat_ranges, given_source, network_levels}
 use Rattle.vrt_model.proofs.Ranked.{plain_not_given, together_first}
+use Rattle.vrt_model.proofs.Scales.{least_below}
 use Rattle.vrt_model.specs.Circuits.{IsFlat, IsHold}
 use Rattle.vrt_model.specs.Known.{HasFixedBit, IsChannel, IsKnown, IsPlain, IsShut, IsTogether, fixed, itself, onward, settled}
+use Rattle.vrt_model.specs.Levels.{source_level}
 use Rattle.vrt_model.specs.Lists.{At, Among, bit_at}
 use Rattle.vrt_model.specs.Networks.{HasLevels, IsSource}
 use Rattle.vrt_model.specs.Path.{Hop, IsPath, IsRoot, Joins, Network, Root, end_of}
@@ -78,15 +80,15 @@ module _ (c : Circuit) (phase : Phase) (flat : IsFlat c) (setting : Setting) (wh
   no_output at pin e = at_none at pin (subst (λ ps. At ps at pin) (flat_outputs c which setting.held s flat.wholes) e)
 
   here : Reaches view n (s.reading n)
-  here = (record { net = n; level = 8; value = s.reading n }, [], inl (g.0, g.1, g.2, refl, refl), source_strength view levels n source, refl, refl)
+  here = (record { net = n; level = source_level c; value = s.reading n }, [], inl (g.0, g.1, g.2, refl, refl), source_strength view levels n source, refl, refl)
 
   own_value : (root : Root) → IsRoot view root → root.net ≡ n → IsStrength view root.net root.level → root.value ≡ s.reading n
   own_value root is e strong =
-      let top : 8 ≤ root.level = strong.0 (record { net = n; level = 8; value = s.reading n }) [] (inl (g.0, g.1, g.2, refl, refl)) (sym e) in
+      let top : source_level c ≤ root.level = strong.0 (record { net = n; level = source_level c; value = s.reading n }) [] (inl (g.0, g.1, g.2, refl, refl)) (sym e) in
       elim is [
         | inl h ↦ h.4 ∙ ap s.reading e
         | inr other ↦ elim other [
-          | inl h ↦ absurd (let same = h.4 in let le = (all_among (IsHold c) c.holds h.1 flat.holds (h.0, h.2)).size.1 in omega (arith, top, same, le))
+          | inl h ↦ absurd (let same = h.4 in let le = (all_among (IsHold c) c.holds h.1 flat.holds (h.0, h.2)).size.1 in let below = least_below c in omega (arith, top, same, le, below))
           | inr o ↦ absurd (no_output o.0 o.1 o.2)
         ]
       ]

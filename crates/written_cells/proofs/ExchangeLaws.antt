@@ -108,7 +108,7 @@ module _ (k : Comparison) (flat : FlatModel) (number : ℕ) (none : HasNoState k
     no_fault a g solves assigns Float at stands = old.no_fault a old.assignment.0 solves old.assignment.1 Float at stands
     no_fault a g solves assigns Unsettled at stands = old.no_fault a old.assignment.0 solves old.assignment.1 Unsettled at stands
     no_fault a g solves assigns Constraint at stands = old.no_fault a old.assignment.0 solves old.assignment.1 Constraint at stands
-    no_fault a g solves assigns Differs at (n, w, (port, signal, there, out, seen, net, wanted), misses) =
+    no_fault a g solves assigns Differs at (n, w, (port, signal, there, out, seen, free, net, wanted), misses) =
         misses (ap a net ∙ gives phase bits a g port signal within met solves assigns (record { there = (at, there); output = out; observed = seen }) ∙ sym wanted)
     no_fault a g solves assigns Next at (n, w, (same, wants), misses) = not_held wants.0 wants.4.stands.0 wants.4.stands.1
     no_fault a g solves assigns Apart at (n, w, (same, wants), misses) = not_held wants.0 wants.5.stands.0 wants.5.stands.1

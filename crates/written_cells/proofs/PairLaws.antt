@@ -16,7 +16,7 @@ use Rattle.vrt_model.specs.declared.rules.Rules.{Rules}
 use Rattle.written_models.specs.Written.{Logic, written_model}
 
 abbrev no_model : BlifModel
-no_model = record { line = 0; name = []; inputs = []; input_lines = []; clocks = []; clock_lines = []; outputs = []; output_lines = []; covers = []; latches = []; subs = [] }
+no_model = record { line = 0; name = []; inputs = []; input_lines = []; clocks = []; clock_lines = []; outputs = []; output_lines = []; covers = []; latches = []; subs = []; exdc = [] }
 
 abbrev paired_at : Option ℕ → Paired
 paired_at o = unwrap_or (option_map (λ (m : ℕ). Model m) o) Missing

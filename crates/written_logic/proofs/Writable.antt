@@ -19,7 +19,7 @@ use Rattle.vrt_model.proofs.Tests.{map_none, some_or_none}
 use Rattle.vrt_model.specs.Assignment.{Tied}
 use Rattle.vrt_model.specs.Comparison.{Comparison, tied_inputs}
 use Rattle.vrt_model.specs.Elements.{signal_name}
-use Rattle.vrt_model.specs.FlatBlif.{flat_model_of, model_at, signal_at, top_model}
+use Rattle.vrt_model.specs.FlatBlif.{flat_model_of, model_at, network_names, signal_at, top_model, unrolled_of}
 use Rattle.vrt_model.specs.Inputs.{AllApart, IsBlif, IsModel}
 use Rattle.vrt_model.specs.Lists.{Among, has_name, has_number}
 use Rattle.vrt_model.specs.Unsupported.{IsSupported, comparison_of}
@@ -77,7 +77,7 @@ apart_names blif m good =
     ]
   where
     none : BlifModel
-    none = record { line = 0; name = []; inputs = []; input_lines = []; clocks = []; clock_lines = []; outputs = []; output_lines = []; covers = []; latches = []; subs = [] }
+    none = record { line = 0; name = []; inputs = []; input_lines = []; clocks = []; clock_lines = []; outputs = []; output_lines = []; covers = []; latches = []; subs = []; exdc = [] }
 
 -- ---- what is written
 
@@ -131,18 +131,18 @@ module _ (design : Design) (blif : Blif) (rules : Rules) (cell m : ℕ) (l : Log
   -- ---- outputs are no inputs
 
   input_signals : (name : List ℕ) → has_name l.inputs name ≡ true → Among (flat_model_of blif m).inputs (signal_at blif (top_model m) name)
-  unfolding flat_model_of
+  unfolding flat_model_of unrolled_of network_names
   input_signals name t = map_among (signal_at blif (top_model m)) (model_at blif m).inputs name (subst (λ (xs : List (List ℕ)). Among xs name) logic.inputs (named_among l.inputs name t))
 
   clock_signals : (name : List ℕ) → has_name l.clocks name ≡ true → has_name l.inputs name ≡ false → Among (flat_model_of blif m).clocks (signal_at blif (top_model m) name)
-  unfolding flat_model_of
+  unfolding flat_model_of unrolled_of network_names
   clock_signals name t other =
       map_among (signal_at blif (top_model m)) (filter (λ n. not (has_name (model_at blif m).inputs n)) (model_at blif m).clocks) name
       (among_kept (λ n. not (has_name (model_at blif m).inputs n)) (model_at blif m).clocks name (subst (λ (xs : List (List ℕ)). Among xs name) logic.clocks (named_among l.clocks name t))
       (ap (λ (xs : List (List ℕ)). not (has_name xs name)) (sym logic.inputs) ∙ ap not other))
 
   output_signals : (name : List ℕ) → has_name l.outputs name ≡ true → Among (flat_model_of blif m).outputs (signal_at blif (top_model m) name)
-  unfolding flat_model_of
+  unfolding flat_model_of unrolled_of network_names
   output_signals name t = map_among (signal_at blif (top_model m)) (model_at blif m).outputs name (subst (λ (xs : List (List ℕ)). Among xs name) logic.outputs (named_among l.outputs name t))
 
   given_signals : (name : List ℕ) → has_name (l.inputs ++ l.clocks) name ≡ true → Among ((flat_model_of blif m).inputs ++ (flat_model_of blif m).clocks) (signal_at blif (top_model m) name)

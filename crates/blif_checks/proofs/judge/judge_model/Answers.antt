@@ -1,6 +1,8 @@
-use Rattle.blif_checks.proofs.LeastLaws.{judged_shown}
+use Rattle.vrt_model.specs.Models.{network_of, own_fault}
+use Rattle.blif_checks.proofs.JudgeLaws.{told_of}
 use Rattle.blif_checks.proofs.judge.judge_model.Goals as goal
 
-pub returns : goal.returns
-returns c =
-    judged_shown c.args.blif.now c.args.model.now c.in-Ok.shown c.as_slice.result.now c.as_slice-2.result.now c.judge_mentions.result c.in-Ok.ensures c.as_slice.ensures.value c.as_slice-2.ensures c.judge_mentions.ensures
+pub returns-in-Err : goal.returns-in-Err
+returns-in-Err c =
+    rw c.earlier_of.ensures
+    (told_of (own_fault c.args.blif.now c.args.model.now) (own_fault c.args.blif.now (network_of c.args.model.now)) c.in-Err.fault c.judge_part-network.result c.in-Err.ensures c.judge_part-network.ensures)

@@ -6,4 +6,4 @@ use Rattle.blif_flat.proofs.counts.rows_of.Given as goal
 
 -- the rows so far
 abbrev pub invariant-loop-cover : goal.invariant-loop-cover
-invariant-loop-cover l = l.rows ≡ carried (sum_by (λ (c : CoverLine). length c.rows) (take l.cover-index l.cover-items))
+invariant-loop-cover l = l.rows ≡ carried (sum_by (λ (c : CoverLine). length c.rows) (take l.cover-index l.covers))

@@ -20,8 +20,8 @@ returns c =
     let roles = c.args.pairing.now.ports in
     let t = whole_of c.args.design.now c.args.rules.now c.args.cell roles in
     let size : length c.in_ok-nets.nets ≡ length (flat_nets t) = ap (λ (nets : List FlatNet). length nets) c.in_ok-nets.ensures in
-    assembled t _ _ _ _ _ c.in_ok-nets.ensures (c.in_ok-devices.ensures c.args.cell roles (c.requires.unrolled roles))
-    (c.in_ok-holds.ensures roles (omega (arith, size))) (c.in_ok-instances.ensures t (c.requires.unrolled roles)) c.new.ensures
+    assembled t _ _ _ _ _ _ c.in_ok-nets.ensures (c.in_ok-devices.ensures c.args.cell roles (c.requires.unrolled roles))
+    (c.in_ok-holds.ensures roles (omega (arith, size))) (c.in_ok-instances.ensures t (c.requires.unrolled roles)) c.new.ensures c.source_level.ensures
 
 pub overflow_cast-count : goal.overflow_cast-count
 overflow_cast-count c =

@@ -10,5 +10,6 @@ returns c e =
       outputs = c.requires.range.2;
       covers = c.requires.range.3;
       latches = c.requires.range.4;
+      dontcares = c.requires.range.5;
       one_driver = c.have_one_driver.ensures e;
     }

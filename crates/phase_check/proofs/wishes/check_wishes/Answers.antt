@@ -46,7 +46,7 @@ returns-in-Ok-None-clause-gives c made evaluated =
     let adds = c.in-Ok-None.ensures.adds in
     let care_in = live_within d.budget u operations d c.args.search.care s.store.used sound s.opened.care_live in
     let all_in = wishes_within k phase plan c.requires.search.ready c.requires.search.planned words d s.store.words d.budget u operations s.store.used sound evaluated.kept.nets.live evaluated.model.live in
-    let counted : IsCounted u (3 * length c.as_slice.result.now) d new =
+    let counted : IsCounted u (4 * length c.as_slice.result.now) d new =
     (c.in-Ok-None.ensures.counts u care_in (subst (λ (x : WishBits). AreWithin u d x) (sym c.wish_bits-bits.ensures) all_in)).added in
     let b = handles_of words in
     let found = subst (λ (o : Option WishFault). WishesFind c.as_slice.result.now care c.wish_bits-bits.result d new o) c.in-Ok-None.field-0-is c.in-Ok-None.ensures.found in
@@ -54,8 +54,8 @@ returns-in-Ok-None-clause-gives c made evaluated =
     subst (λ (ws : List Wish). WishesFind ws care b d d None) c.as_slice.ensures (subst (λ (x : WishBits). WishesFind c.as_slice.result.now care x d d None) c.wish_bits-bits.ensures found) in
     record {
       kept = record {
-        searched = searched_next k phase d.budget operations (3 * length plan.wishes) words d new (adds_now d new adds) (words_now d new adds)
-            (subst (λ (ws : List Wish). IsCounted u (3 * length ws) d new) c.as_slice.ensures counted) c.requires.search.ready c.args.search.care (circuit_spots k plan) (circuit_spots k plan)
+        searched = searched_next k phase d.budget operations (4 * length plan.wishes) words d new (adds_now d new adds) (words_now d new adds)
+            (subst (λ (ws : List Wish). IsCounted u (4 * length ws) d new) c.as_slice.ensures counted) c.requires.search.ready c.args.search.care (circuit_spots k plan) (circuit_spots k plan)
             (stays_added words.roots d new adds) (stays_added words.inputs d new adds) (stays_added words.held d new adds) s s.clear;
         nets = nets_stay k phase c.requires.search.ready words d new s.store.words (adds_now d new adds) (stays_added words.gates d new adds) evaluated.kept.nets;
       };
@@ -78,11 +78,11 @@ returns-in-Err-clause-gives c made evaluated =
     let spent = c.in-Err.spent in
     let care_in = live_within d.budget u operations d c.args.search.care s.store.used sound s.opened.care_live in
     let all_in = wishes_within k phase plan c.requires.search.ready c.requires.search.planned words d s.store.words d.budget u operations s.store.used sound evaluated.kept.nets.live evaluated.model.live in
-    let counts : Counts {A = Option WishFault} u (3 * length c.as_slice.result.now) d new (Err spent) =
+    let counts : Counts {A = Option WishFault} u (4 * length c.as_slice.result.now) d new (Err spent) =
     c.in-Err.ensures.counts u care_in (subst (λ (b : WishBits). AreWithin u d b) (sym c.wish_bits-bits.ensures) all_in) in
-    let more : ℕ = 3 * length plan.wishes in
+    let more : ℕ = 4 * length plan.wishes in
     may_spend k phase d.budget u operations more (operations + more) d new spent s.store.used refl c.requires.budget (omega arith)
-    (subst (λ (ws : List Wish). Counts {A = Option WishFault} u (3 * length ws) d new (Err spent)) c.as_slice.ensures counts)
+    (subst (λ (ws : List Wish). Counts {A = Option WishFault} u (4 * length ws) d new (Err spent)) c.as_slice.ensures counts)
 
 pub returns-in-Ok-Some-clause-gives : goal.returns-in-Ok-Some-clause-gives
 returns-in-Ok-Some-clause-gives c made evaluated =
@@ -108,9 +108,9 @@ returns-in-Ok-Some-clause-gives c made evaluated =
     subst (λ (ws : List Wish). IsFoundWish ws care b fault d new) c.as_slice.ensures (subst (λ (x : WishBits). IsFoundWish c.as_slice.result.now care x fault d new) c.wish_bits-bits.ensures found) in
     let care_in = live_within d.budget u operations d care s.store.used sound s.opened.care_live in
     let all_in = wishes_within k phase plan c.requires.search.ready c.requires.search.planned words d s.store.words d.budget u operations s.store.used sound evaluated.kept.nets.live evaluated.model.live in
-    let counted : IsCounted u (3 * length c.as_slice.result.now) d new =
+    let counted : IsCounted u (4 * length c.as_slice.result.now) d new =
     (c.in-Ok-Some.ensures.counts u care_in (subst (λ (x : WishBits). AreWithin u d x) (sym c.wish_bits-bits.ensures) all_in)).added in
     wish_phase_fault k phase plan c.requires.search.ready c.requires.search.planned words d s.store.words care s.opened evaluated.kept.nets evaluated.model new fault first has c.requires.search.there
-    (model_of k phase plan words d care c.requires.search.ready c.requires.search.planned s.opened) new.budget (operations + 3 * length c.as_slice.result.now)
-    (store_next k phase d.budget operations (3 * length c.as_slice.result.now) words d new (adds_now d new adds) (words_now d new adds) counted s.store)
+    (model_of k phase plan words d care c.requires.search.ready c.requires.search.planned s.opened) new.budget (operations + 4 * length c.as_slice.result.now)
+    (store_next k phase d.budget operations (4 * length c.as_slice.result.now) words d new (adds_now d new adds) (words_now d new adds) counted s.store)
     adds.sound s.clear

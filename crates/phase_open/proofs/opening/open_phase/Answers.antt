@@ -8,7 +8,7 @@ use Rattle.constraints.specs.Cared.{HasInputs, meets_by}
 use Rattle.node_pool.specs.declared.region.Span.{Span}
 use Rattle.hold_keep.specs.Rooted.{bits_at}
 use Rattle.phase_open.proofs.OpenLaws.{roots_stay, span_reads, tests_more}
-use Rattle.phase_open.proofs.PhaseLaws.{care_refused, model_counted, model_refused, root_operations, roots_added}
+use Rattle.phase_open.proofs.PhaseLaws.{care_refused, model_counted, model_refused, opened_writes, root_operations, roots_added}
 use Rattle.phase_open.proofs.Settings.{met_read}
 use Rattle.phase_terms.specs.Ready.{comparison_in}
 use Rattle.vrt_model.specs.Comparison.{Comparison}
@@ -105,3 +105,11 @@ returns-in-Err-open_model-clause-counts c =
     subst (IsSpanWithin u roots) (sym c.net_roots.ensures) (λ n lt. all n (omega (arith, lt, c.requires.words.roots_len))) in
     model_refused k c.args.phase first roots c.care.new.store c.in-Ok.first c.in-Ok.ensures.counts c.in-Ok-care.care (c.in-Ok-care.ensures.counts u low within) c.open_model.new.store c.args.words.held.len
     c.requires.words.held_len c.in-Err-open_model.spent c.in-Err-open_model.ensures.counts
+
+pub returns-in-Ok-open_model-clause-writes : goal.returns-in-Ok-open_model-clause-writes
+returns-in-Ok-open_model-clause-writes c =
+    opened_writes c.args.words c.args.store.now c.open_roots.new.store c.care.new.store c.open_model.new.store c.in-Ok.ensures.writes c.in-Ok-care.ensures.gives.adds c.open_model.ensures.writes
+
+pub returns-in-Err-open_model-clause-writes : goal.returns-in-Err-open_model-clause-writes
+returns-in-Err-open_model-clause-writes c =
+    opened_writes c.args.words c.args.store.now c.open_roots.new.store c.care.new.store c.open_model.new.store c.in-Ok.ensures.writes c.in-Ok-care.ensures.gives.adds c.open_model.ensures.writes

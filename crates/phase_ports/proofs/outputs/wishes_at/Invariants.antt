@@ -6,7 +6,7 @@ use Rattle.phase_ports.proofs.outputs.wishes_at.Given as goal
 -- the wishes so far, and those of the ports that are left
 abbrev pub invariant-ports : goal.invariant-ports
 invariant-ports l =
-    l.wishes ++ filter_map (seen_wish l.rules l.cell l.phase) l.rest ≡ filter_map (seen_wish l.rules l.cell l.phase) l.fn.ports
+    l.wishes ++ filter_map (seen_wish l.rules l.cell l.phase l.bits) l.rest ≡ filter_map (seen_wish l.rules l.cell l.phase l.bits) l.fn.ports
 
 abbrev pub decreases-ports : goal.decreases-ports
 decreases-ports l = length l.rest

@@ -28,6 +28,9 @@ check_wish-requires-clause-net c = (all_among (IsWithinBits c.args.bits) c.args.
 pub check_wish-requires-clause-inside : goal.check_wish-requires-clause-inside
 check_wish-requires-clause-inside c = (all_among (IsWithinBits c.args.bits) c.args.wishes.now c.wish_at.result c.requires.wishes (c.loop-i.i, c.wish_at.ensures)).1
 
+pub check_wish-requires-clause-free : goal.check_wish-requires-clause-free
+check_wish-requires-clause-free c = (all_among (IsWithinBits c.args.bits) c.args.wishes.now c.wish_at.result c.requires.wishes (c.loop-i.i, c.wish_at.ensures)).2
+
 pub returns-in-Err-clause-adds : goal.returns-in-Err-clause-adds
 returns-in-Err-clause-adds c = nodes_then c.args.store.now c.loop-i.store c.check_wish.new.store c.loop-i.invariant.adds c.in-Err.ensures.adds
 
@@ -40,8 +43,8 @@ returns-in-Err-clause-counts c u care bits =
     let adds = c.loop-i.invariant.adds in
     let one = c.in-Err.ensures.counts u (within_same u (function_of first c.args.care) (function_of old c.args.care) (adds.kept c.args.care.0 c.requires.care) care)
     (within_added u c.args.bits first old adds c.requires.bits bits) in
-    counts_more u (3 * i + 3) (3 * length c.args.wishes.now) first new (Err c.in-Err.spent) (omega (arith, c.loop-i-test.true))
-    (counts_then u (3 * i) 3 first old new (Err c.in-Err.spent) (c.loop-i.invariant.counted u care bits) (counts_err u 3 old new c.in-Err.spent one))
+    counts_more u (4 * i + 4) (4 * length c.args.wishes.now) first new (Err c.in-Err.spent) (omega (arith, c.loop-i-test.true))
+    (counts_then u (4 * i) 4 first old new (Err c.in-Err.spent) (c.loop-i.invariant.counted u care bits) (counts_err u 4 old new c.in-Err.spent one))
 
 pub returns-then-is_somewhere-clause-adds : goal.returns-then-is_somewhere-clause-adds
 returns-then-is_somewhere-clause-adds c = nodes_then c.args.store.now c.loop-i.store c.check_wish.new.store c.loop-i.invariant.adds c.in-Ok.ensures.adds
@@ -64,9 +67,9 @@ returns-then-is_somewhere-clause-counts c u care bits =
     let adds = c.loop-i.invariant.adds in
     let one = c.in-Ok.ensures.counts u (within_same u (function_of first c.args.care) (function_of old c.args.care) (adds.kept c.args.care.0 c.requires.care) care)
     (within_added u c.args.bits first old adds c.requires.bits bits) in
-    counts_ok u (3 * length c.args.wishes.now) first new _
-    (counted_more u (3 * i + 3) (3 * length c.args.wishes.now) first new (omega (arith, c.loop-i-test.true))
-    (counted_then u (3 * i) 3 first old new (c.loop-i.invariant.counted u care bits) one.added))
+    counts_ok u (4 * length c.args.wishes.now) first new _
+    (counted_more u (4 * i + 4) (4 * length c.args.wishes.now) first new (omega (arith, c.loop-i-test.true))
+    (counted_then u (4 * i) 4 first old new (c.loop-i.invariant.counted u care bits) one.added))
 
 pub loop-i-preserved : goal.loop-i-preserved
 loop-i-preserved c =
@@ -85,7 +88,7 @@ loop-i-preserved c =
       counted = λ u care bits.
           let one = c.in-Ok.ensures.counts u (within_same u (function_of first c.args.care) (function_of old c.args.care) (adds.kept c.args.care.0 c.requires.care) care)
           (within_added u c.args.bits first old adds c.requires.bits bits) in
-          counted_more u (3 * i + 3) (3 * (i + 1)) first new (omega arith) (counted_then u (3 * i) 3 first old new (c.loop-i.invariant.counted u care bits) one.added);
+          counted_more u (4 * i + 4) (4 * (i + 1)) first new (omega arith) (counted_then u (4 * i) 4 first old new (c.loop-i.invariant.counted u care bits) one.added);
     }
 
 pub returns-clause-gives : goal.returns-clause-gives
@@ -94,6 +97,6 @@ returns-clause-gives c i wish here =
 
 pub returns-clause-counts : goal.returns-clause-counts
 returns-clause-counts c u care bits =
-    counts_ok u (3 * length c.args.wishes.now) c.args.store.now c.loop-i.store _
-    (counted_more u (3 * c.loop-i.i) (3 * length c.args.wishes.now) c.args.store.now c.loop-i.store (omega (arith, c.loop-i.auto.i-end))
+    counts_ok u (4 * length c.args.wishes.now) c.args.store.now c.loop-i.store _
+    (counted_more u (4 * c.loop-i.i) (4 * length c.args.wishes.now) c.args.store.now c.loop-i.store (omega (arith, c.loop-i.auto.i-end))
     (c.loop-i.invariant.counted u care bits))

@@ -12,5 +12,5 @@ abbrev pub invariant-loop-i : goal.invariant-loop-i
 invariant-loop-i l = record {
   adds : AddsNodes l.fn.store l.store;
   met : (k : ℕ) (wish : Wish) → k < l.i → At l.wishes k wish → IsMet l.fn.care l.fn.bits l.fn.store wish;
-  counted : (u : ℕ) → IsWithin u (function_of l.fn.store l.fn.care) → AreWithin u l.fn.store l.fn.bits → IsCounted u (3 * l.i) l.fn.store l.store;
+  counted : (u : ℕ) → IsWithin u (function_of l.fn.store l.fn.care) → AreWithin u l.fn.store l.fn.bits → IsCounted u (4 * l.i) l.fn.store l.store;
 }

@@ -4,4 +4,4 @@ use Rattle.rules_reader.proofs.build.tables.Given as goal
 
 -- the tables of the lines so far
 abbrev pub invariant-loop-card : goal.invariant-loop-card
-invariant-loop-card l = AreSoFar l.known.clocks l.known.phases l.known.clocks (take l.card-index l.cards) l.rules
+invariant-loop-card l = AreSoFar l.known.clocks l.known.phases l.known.clocks l.known.scale (take l.card-index l.cards) l.rules

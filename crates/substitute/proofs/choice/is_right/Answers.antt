@@ -19,7 +19,7 @@ passes-requires-clause-candidate c =
     let less = c.count_channels.new.counts.items in
     let gone = c.devices_gone-gone.ensures s.0 s.1 s.2 s.3 s.5 s.6.is.has.chosen_are.tables_are in
     let without = trial_without c.args.asked s.0 s.1 s.2 c.args.tables s.3 chosen s.4 c.args.pins.now s.6 c.args.at s.5 less c.in_ok-count_channels.ensures.len
-    (subst (λ (ds : List Device). AreChanged false (λ n k. length (channels_of (4 + k) ds n)) channels less) gone
+    (subst (λ (ds : List Device). AreChanged false (λ n k. length (channels_of k ds n)) channels less) gone
     c.in_ok-count_channels.ensures.is) in (
       cut_of s.0 chosen.whole.items,
       s.1,
@@ -37,7 +37,7 @@ returns-clause-right c t blif facts i own e trial =
     let less = c.count_channels.new.counts.items in
     let gone = c.devices_gone-gone.ensures t blif facts i e trial.is.has.chosen_are.tables_are in
     let without = trial_without c.args.asked t blif facts c.args.tables i chosen own c.args.pins.now trial c.args.at e less c.in_ok-count_channels.ensures.len
-    (subst (λ (ds : List Device). AreChanged false (λ n k. length (channels_of (4 + k) ds n)) channels less) gone
+    (subst (λ (ds : List Device). AreChanged false (λ n k. length (channels_of k ds n)) channels less) gone
     c.in_ok-count_channels.ensures.is) in
     c.in_ok-right.ensures (cut_of t chosen.whole.items) blif facts i (place_of_trial c.args.asked t blif facts c.args.tables i chosen own c.args.pins.now trial c.args.at e)
     (model_of_trial c.args.asked t blif facts c.args.tables i chosen own c.args.pins.now trial c.args.at e)
@@ -52,7 +52,7 @@ returns-clause-counts c t blif facts i own e trial =
     let right = c.in_ok-right.right in
     let gone = c.devices_gone-gone.ensures t blif facts i e trial.is.has.chosen_are.tables_are in
     let without = trial_without c.args.asked t blif facts c.args.tables i chosen own c.args.pins.now trial c.args.at e less c.in_ok-count_channels.ensures.len
-    (subst (λ (ds : List Device). AreChanged false (λ n k. length (channels_of (4 + k) ds n)) channels less) gone
+    (subst (λ (ds : List Device). AreChanged false (λ n k. length (channels_of k ds n)) channels less) gone
     c.in_ok-count_channels.ensures.is) in
     trial_settled c.args.asked t blif facts c.args.tables i chosen own c.args.pins.now trial c.args.at e right less new without c.in_ok-settle.ensures.len
     (subst (λ (ds : List Device). AreSettled right ds less new) gone

@@ -29,6 +29,6 @@ returns c told =
     let ports = c.in_ok-ports.ensures ∙ ap (ports_by 0 2) c.as_slice.ensures ∙ ports_same a.design.now a.blif.now a.rules.now a.cell a.model own is in
     let has = c.in_ok-whole.ensures.has k (of_cell a.design.now a.blif.now a.rules.now a.cell a.model own is) (circuit_same a.design.now a.blif.now a.rules.now a.cell a.model own is)
     (model_same a.design.now a.blif.now a.rules.now a.cell a.model own is) ports in
-    passed_entry a.design.now a.blif.now a.rules.now facts a.cell a.model c.requires.paired told c.passes-free.result
+    passed_entry a.design.now a.blif.now a.rules.now facts a.cell a.model c.requires.paired told c.requires.cared c.passes-free.result
     (c.passes-free.ensures k (of_own a.design.now a.blif.now a.rules.now a.cell a.model own is) (c.as_slice-list.ensures.value ∙ ports)) c.if-not-free.false c.in_ok-whole.whole has
     (subst (AreDrivesOf facts a.cell) (sym c.in_ok-whole.ensures.told) c.in_ok-drives.ensures) (ports_count a.design.now a.blif.now a.rules.now a.cell a.model own is c.in_ok-whole.whole has)

@@ -26,4 +26,5 @@ returns c cut blif facts is marks flat formed places cells =
       holds = c.in_ok-holds.ensures cut marks parts.instances parts.holds;
       instances = c.in_ok-instances.ensures cut marks (c.as_slice-3.ensures ∙ parts.instances);
       wholes = c.in_ok-wholes.ensures cut blif facts c.args.flat.now has whole cells;
+      source = parts.source;
     }

@@ -7,9 +7,9 @@ use Rattle.whole_circuits.proofs.counts.count_channels.Given as goal
 abbrev pub invariant-devices : goal.invariant-devices
 invariant-devices l =
     (length l.counts.items ≡ length l.initial.counts.items)
-    × ((n k : ℕ) → k < 4 → 4 * n + k < length l.initial.counts.items
-    → changed l.more (slice_index l.counts.items (4 * n + k)) (length (channels_of (4 + k) l.rest n))
-    ≡ changed l.more (slice_index l.initial.counts.items (4 * n + k)) (length (channels_of (4 + k) l.fn.devices n)))
+    × ((n k : ℕ) → k < 16 → 16 * n + k < length l.initial.counts.items
+    → changed l.more (slice_index l.counts.items (16 * n + k)) (length (channels_of k l.rest n))
+    ≡ changed l.more (slice_index l.initial.counts.items (16 * n + k)) (length (channels_of k l.fn.devices n)))
 
 abbrev pub decreases-devices : goal.decreases-devices
 decreases-devices l = length l.rest

@@ -1,0 +1,8 @@
+use Rattle.std.proofs.Common.{◌≡◌, ap, arith, ◌∙◌}
+use Rattle.whole_circuits.specs.Counts.{bears_below}
+use Rattle.whole_circuits.proofs.counts.bears_all.Goals as goal
+
+pub returns : goal.returns
+returns c =
+    let end : c.loop-level.level ≡ 16 = omega (arith, c.loop-level-test.false, c.loop-level.auto.level-end) in
+    c.loop-level.invariant ∙ ap (bears_below c.args.counts.now c.args.drive c.args.net) end
