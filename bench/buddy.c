@@ -1,7 +1,7 @@
-/* The functions of bdd_bench, made with the C package BuDDy (Debian: libbdd-dev).
+/* The known functions of store_rows, made with the C package BuDDy (Debian: libbdd-dev).
  *
  * usage: buddy CASE NODES TIMES CACHE
- * It prints a line as bdd_bench does: the microseconds that opening and making took, and the nodes that were made, with
+ * It prints a line as store_rows does with these words: the microseconds that opening and making took, and the nodes that were made, with
  * the two constants. Every result is referenced and nothing is freed, so both packages keep the same nodes.
  */
 #include <bdd.h>

@@ -290,7 +290,9 @@ def judged(words, files, status, out):
     wrong = []
     if out and not out.endswith(b"\n"):
         wrong.append("the last line does not end")
-    if re.search(b"[^ -~\n]", out):
+    # The name of a file is printed as it was given.
+    given = all(re.fullmatch("[ -~]*", word) for word in words)
+    if given and re.search(b"[^ -~\n]", out):
         wrong.append("a byte that is not text")
     lines = out.decode("latin-1").split("\n")[:-1]
     ask = asked(words)

@@ -22,7 +22,7 @@ OPTIONS = [[], ["--do"], ["--do", "--cell", "--phase"], ["--do", "--cell", "--ph
 
 def options_of(folder):
     """The options of a case by their names, or None where it is not of the kind that is simulated."""
-    words = (folder / "words").read_text().split()
+    words = [part for word in (folder / "words").read_text().split() for part in (word.split("=", 1) if word.startswith("--") else [word])]
     options = dict(zip(words[:-3:2], words[1:-3:2]))
     if words[-3:] != FILES or list(options) not in OPTIONS or (folder / "make").exists() or (folder / "output").exists():
         return None

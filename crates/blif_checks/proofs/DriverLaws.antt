@@ -1,14 +1,21 @@
 -- What drives signals and what uses them.
-use Rattle.std.proofs.Common.{◌≡◌, ◌<◌, ◌++◌, ◌∷◌, ◌&&◌, ◌||◌, [], ℕ, zero, suc, List, Bool, true, false, cond, not, map, flat_map, length, get_or, Option, Some, None, option_map, refl, ap, ap₂, sym, ◌∙◌, arith}
-use Rattle.std.specs.Prelude.{bytes_eq, filter, find, is_none, is_some, position, slice_get, unwrap_or}
+use Rattle.std.proofs.Common.{◌≡◌, ◌<◌, ◌++◌, ◌∷◌, ◌&&◌, ◌||◌, [], ℕ, zero, suc, List, Bool, true, false, cond, not, map, flat_map, length, get_or, Option, Some, None, option_map, refl, ap, ap₂, sym, ◌∙◌, subst, take, drop, arith, append-nil, append_assoc}
+use Rattle.std.specs.Prelude.{◌==◌, All, bytes_eq, filter, find, is_none, is_some, nat_lt, position, slice_get, unwrap_or}
+use Rattle.std.specs.List.{list_any}
+use Rattle.std.proofs.Math.Seq.{take-append_seam}
+use Rattle.std.proofs.lemmas.Bool.{eqb-true, lt-ltb, or_parts}
+use Rattle.std.proofs.lemmas.Bool.Decides.{nat_tests}
+use Rattle.std.proofs.lemmas.List.{take-append-drop}
+use Rattle.std.proofs.lemmas.List.Elements.{All-get_or}
 use Rattle.std.proofs.lemmas.List.Folds.{list_any-append}
+use Rattle.std.proofs.lemmas.Option.{get_or_from_slice_get, same_Some, slice_get-map, slice_get_within}
 use Rattle.std.proofs.lemmas.List.Quantifiers.{position-Some}
 use Rattle.vrt_model.proofs.Tests.{bytes_eq-sym}
 use Rattle.vrt_model.specs.Lists.{distinct, has_name}
 use Rattle.names.specs.Names.{with_names}
-use Rattle.names.proofs.NameLaws.{once_has_same}
+use Rattle.names.proofs.NameLaws.{once_has_same, once_of_three, with_names_are}
 use Rattle.vrt_model.specs.FlatBlif.{model_at, model_numbered}
-use Rattle.vrt_model.specs.Inputs.{IsModel}
+use Rattle.vrt_model.specs.Inputs.{IsBlif, IsModel}
 use Rattle.vrt_model.specs.Models.{OnLine, drivers_in, interface_of, is_driving, is_reading, line_in, listed_inputs, on_line, on_lines, ties_on, uses_in}
 use Rattle.vrt_model.specs.declared.blif.Blif.{Blif}
 use Rattle.vrt_model.specs.declared.blif.BlifModel.{BlifModel}
@@ -16,12 +23,13 @@ use Rattle.vrt_model.specs.declared.blif.CoverLine.{CoverLine}
 use Rattle.vrt_model.specs.declared.blif.LatchLine.{LatchLine}
 use Rattle.vrt_model.specs.declared.blif.SubLine.{SubLine}
 use Rattle.vrt_model.specs.declared.blif.Tie.{Tie}
-use Rattle.blif_checks.specs.Drivers.{AreReads, at_earlier, latch_uses, others, read_by}
+use Rattle.blif_checks.specs.Drivers.{AreClocks, at_earlier, latch_uses, others}
 use Rattle.blif_checks.specs.Tables.{AreTables}
 use Rattle.blif_checks.specs.declared.mentions.Mention.{Mention}
 use Rattle.blif_checks.specs.declared.tables.Tables.{Tables}
 use Rattle.blif_checks.proofs.MentionLaws.{joined}
-use Rattle.names.proofs.PlaceLaws.{any_placed}
+use Rattle.names.proofs.PlaceLaws.{any_placed, place_cons}
+use Rattle.blif_checks.proofs.NoteLaws.{lt_no}
 use Rattle.names.proofs.ApartLaws.{apart_named}
 use Rattle.blif_checks.proofs.NameLaws.{place_is}
 
@@ -81,14 +89,24 @@ others_same : (p q : OnLine → Bool) (list : List OnLine) → ((o : OnLine) →
 others_same p q [] same = refl
 others_same p q (o ∷ list) same = ap₂ (λ b rest. cond b (o ∷ rest) rest) (same o) (others_same p q list same)
 
+-- the clocks that are no inputs, by the names of the inputs once
+pub clocks_are : (g : OnLine → Mention) (m : BlifModel) (inputs ins clks : List (List ℕ)) (clines : List ℕ) (old new : List Mention) → IsModel m → inputs ≡ with_names [] ins → ins ≡ m.inputs → clks ≡ m.clocks → clines ≡ m.clock_lines
+    → new ≡ old ++ map g (others inputs (on_lines clks clines)) → new ≡ old ++ map g (others m.inputs (on_lines m.clocks m.clock_lines))
+clocks_are g m inputs ins clks clines old new is i ie ce cl e =
+    e ∙ ap₂ (λ (a : List (List ℕ)) (b : List OnLine). old ++ map g (others a b)) (i ∙ ap (with_names []) ie ∙ apart_named m.inputs is.inputs) (ap₂ on_lines ce cl)
+
+-- there are none where there are no clocks
+pub no_clocks : (g : OnLine → Mention) (names clocks : List (List ℕ)) (lines : List ℕ) (old : List Mention) → (length clocks == 0) ≡ true → old ≡ old ++ map g (others names (on_lines clocks lines))
+no_clocks g names [] lines old e = sym (append-nil old)
+no_clocks g names (c ∷ clocks) lines old e = let none : length (c ∷ clocks) ≡ 0 = eqb-true (length (c ∷ clocks)) 0 e in absurd (omega (arith, none))
+
 -- the names of each once are the names, so the lists of the code are those of the definition
-pub heads_are : (g : OnLine → Mention) (m : BlifModel) (inputs clocks ins clks : List (List ℕ)) (ilines clines : List ℕ) (old mid new : List Mention) → IsModel m → inputs ≡ with_names [] m.inputs → clocks ≡ with_names [] m.clocks
-    → ins ≡ m.inputs → clks ≡ m.clocks → ilines ≡ m.input_lines → clines ≡ m.clock_lines
-    → mid ≡ old ++ map g (map (at_earlier (on_lines clocks clines)) (on_lines ins ilines)) → new ≡ mid ++ map g (others inputs (on_lines clks clines)) → new ≡ old ++ map g (listed_inputs m)
-heads_are g m inputs clocks ins clks ilines clines old mid new is i c ie ce il cl e n =
+pub heads_are : (g : OnLine → Mention) (m : BlifModel) (clocks ins : List (List ℕ)) (ilines clines : List ℕ) (old mid new : List Mention) → IsModel m → clocks ≡ with_names [] m.clocks
+    → ins ≡ m.inputs → ilines ≡ m.input_lines → clines ≡ m.clock_lines
+    → mid ≡ old ++ map g (map (at_earlier (on_lines clocks clines)) (on_lines ins ilines)) → new ≡ mid ++ map g (others m.inputs (on_lines m.clocks m.clock_lines)) → new ≡ old ++ map g (listed_inputs m)
+heads_are g m clocks ins ilines clines old mid new is c ie il cl e n =
     joined g (map (at_earlier (on_lines m.clocks m.clock_lines)) (on_lines m.inputs m.input_lines)) (others m.inputs (on_lines m.clocks m.clock_lines)) old mid new
-    (e ∙ ap₂ (λ (a : List OnLine) (b : List OnLine). old ++ map g (map (at_earlier a) b)) (ap₂ on_lines (c ∙ apart_named m.clocks is.clocks) cl) (ap₂ on_lines ie il))
-    (n ∙ ap₂ (λ (a : List (List ℕ)) (b : List OnLine). mid ++ map g (others a b)) (i ∙ apart_named m.inputs is.inputs) (ap₂ on_lines ce cl))
+    (e ∙ ap₂ (λ (a : List OnLine) (b : List OnLine). old ++ map g (map (at_earlier a) b)) (ap₂ on_lines (c ∙ apart_named m.clocks is.clocks) cl) (ap₂ on_lines ie il)) n
     ∙ ap (λ (l : List OnLine). old ++ map g (map (at_earlier (on_lines m.clocks m.clock_lines)) (on_lines m.inputs m.input_lines) ++ l))
     (others_same (λ (o : OnLine). not (has_name m.inputs o.name)) (λ (o : OnLine). is_none (line_in (on_lines m.inputs m.input_lines) o.name)) (on_lines m.clocks m.clock_lines)
     (λ o. sym (none_listed m.inputs m.input_lines o.name is.input_lines)))
@@ -105,12 +123,73 @@ list_at f [] n e = sym e
 list_at f (m ∷ ms) zero e = refl
 list_at f (m ∷ ms) (suc n) e = list_at f ms n e
 
-reads_at : (blif : Blif) (tables : Tables) (reads : List (List (List ℕ))) (name f : List ℕ) (number : ℕ) → AreTables blif tables → AreReads blif reads → number ≡ unwrap_or (position (bytes_eq name) tables.names) 0
-    → has_name (get_or reads number []) f ≡ has_name ((model_at blif (model_numbered blif name)).inputs ++ (model_at blif (model_numbered blif name)).clocks) f
-reads_at blif tables reads name f number are is n =
-    ap₂ (λ (xs : List (List (List ℕ))) k. has_name (get_or xs k []) f) is (n ∙ ap (λ (o : Option ℕ). unwrap_or o 0) (place_is blif tables name are))
-    ∙ ap (λ (ns : List (List ℕ)). has_name ns f) (list_at read_by blif.models (model_numbered blif name) refl)
-    ∙ once_has_same ((model_at blif (model_numbered blif name)).inputs ++ (model_at blif (model_numbered blif name)).clocks) f
+-- among so many that come first
+pub first_among : (p : List ℕ → Bool) (xs : List (List ℕ)) (count n : ℕ) → position p xs ≡ Some n → nat_lt n count ≡ list_any p (take count xs)
+first_among p [] count n e = cc
+first_among p (x ∷ xs) zero n e = lt_no n 0 (omega arith)
+first_among p (x ∷ xs) (suc count) n e = by_test (p x) (position p xs) refl (first_among p xs count) n (sym (place_cons p x xs) ∙ e) where
+  by_test : (b : Bool) (o : Option ℕ) → position p xs ≡ o → ((k : ℕ) → position p xs ≡ Some k → nat_lt k count ≡ list_any p (take count xs)) → (n : ℕ) → cond b (Some 0) (option_map suc o) ≡ Some n → nat_lt n (suc count) ≡ (b || list_any p (take count xs))
+  by_test true o h rest n e = let same : 0 ≡ n = cc in ap (λ k. nat_lt k (suc count)) (sym same) ∙ lt-ltb 0 (suc count) (omega arith)
+  by_test false None h rest n e = cc
+  by_test false (Some k) h rest n e = let same : suc k ≡ n = cc in ap (λ k. nat_lt k (suc count)) (sym same) ∙ one_less k ∙ rest k h where
+    one_less : (k : ℕ) → nat_lt (suc k) (suc count) ≡ nat_lt k count
+    one_less k = grind (arith, nat_tests)
+
+pub none_among : (p : List ℕ → Bool) (xs : List (List ℕ)) (count : ℕ) → position p xs ≡ None → list_any p (take count xs) ≡ false
+none_among p xs count e = (or_parts (list_any p (take count xs)) (list_any p (drop count xs)) (sym (list_any-append p (take count xs) (drop count xs)) ∙ ap (list_any p) (take-append-drop count xs) ∙ any_placed p xs ∙ ap is_some e)).0
+
+-- the inputs of a model come first in its interface
+pub inputs_first : (m : BlifModel) → IsModel m → take (length m.inputs) (distinct (interface_of m)) ≡ m.inputs
+inputs_first m is =
+    let once : with_names [] m.inputs ≡ m.inputs = apart_named m.inputs is.inputs in
+    let all : distinct (interface_of m) ≡ with_names (with_names m.inputs m.clocks) m.outputs = sym (once_of_three m.inputs m.clocks m.outputs) ∙ ap (λ (ns : List (List ℕ)). with_names (with_names ns m.clocks) m.outputs) once in
+    let others = distinct (filter (λ (y : List ℕ). not (has_name m.inputs y)) m.clocks) in
+    let more = distinct (filter (λ (y : List ℕ). not (has_name (m.inputs ++ others) y)) m.outputs) in
+    let split : with_names (with_names m.inputs m.clocks) m.outputs ≡ m.inputs ++ others ++ more =
+    ap (λ (ns : List (List ℕ)). with_names ns m.outputs) (with_names_are m.inputs m.clocks) ∙ with_names_are (m.inputs ++ others) m.outputs in
+    ap (take (length m.inputs)) (all ∙ split ∙ append_assoc m.inputs others more) ∙ take-append_seam m.inputs (others ++ more)
+
+-- by the tables
+model_there : (models : List BlifModel) (n : ℕ) (m : BlifModel) → slice_get models n ≡ Some m → All IsModel models → IsModel m
+model_there models n m here are = subst IsModel (get_or_from_slice_get models n m m here) (All-get_or IsModel models n m (slice_get_within models n m here) are)
+
+interface_of_number : (blif : Blif) (tables : Tables) (n : ℕ) → AreTables blif tables → slice_get tables.interfaces n ≡ option_map (λ (m : BlifModel). distinct (interface_of m)) (slice_get blif.models n)
+interface_of_number blif tables n are =
+    ap (λ (xs : List (List (List ℕ))). slice_get xs n) are.interfaces ∙ slice_get-map (λ (m : BlifModel). distinct (interface_of m)) blif.models n
+
+pub input_is : (blif : Blif) (tables : Tables) (clocks : List (List (List ℕ))) (n : ℕ) (names : List (List ℕ)) (name : List ℕ) → AreTables blif tables → AreClocks blif clocks
+    → slice_get tables.interfaces n ≡ Some names → has_name (take (length (model_at blif n).inputs) names) name ≡ has_name (model_at blif n).inputs name
+input_is blif tables clocks n names name are is at = by_model (slice_get blif.models n) refl where
+  by_model : (o : Option BlifModel) → slice_get blif.models n ≡ o → has_name (take (length (model_at blif n).inputs) names) name ≡ has_name (model_at blif n).inputs name
+  by_model None here =
+      let never : Some names ≡ None = sym at ∙ interface_of_number blif tables n are ∙ ap (option_map (λ (m : BlifModel). distinct (interface_of m))) here in cc
+  by_model (Some m) here =
+      let same : names ≡ distinct (interface_of m) =
+      same_Some names (distinct (interface_of m)) (sym at ∙ interface_of_number blif tables n are ∙ ap (option_map (λ (m : BlifModel). distinct (interface_of m))) here) in
+      let is_m : model_at blif n ≡ m = ap (λ (o : Option BlifModel). unwrap_or o (record { line = 0; name = []; inputs = []; input_lines = []; clocks = []; clock_lines = []; outputs = []; output_lines = []; covers = []; latches = []; subs = []; exdc = [] })) here in
+      ap₂ (λ (x : BlifModel) (ns : List (List ℕ)). has_name (take (length x.inputs) ns) name) is_m same
+      ∙ ap (λ (ns : List (List ℕ)). has_name ns name) (inputs_first m (model_there blif.models n m here is.models)) ∙ ap (λ (x : BlifModel). has_name x.inputs name) (sym is_m)
+
+pub input_none : (blif : Blif) (tables : Tables) (n : ℕ) (name : List ℕ) → AreTables blif tables → slice_get tables.interfaces n ≡ None → has_name (model_at blif n).inputs name ≡ false
+input_none blif tables n name are at = by_model (slice_get blif.models n) refl where
+  by_model : (o : Option BlifModel) → slice_get blif.models n ≡ o → has_name (model_at blif n).inputs name ≡ false
+  by_model None here = ap (λ (o : Option BlifModel). has_name (unwrap_or o (record { line = 0; name = []; inputs = []; input_lines = []; clocks = []; clock_lines = []; outputs = []; output_lines = []; covers = []; latches = []; subs = []; exdc = [] })).inputs name) here
+  by_model (Some m) here =
+      let never : None ≡ Some (distinct (interface_of m)) = sym at ∙ interface_of_number blif tables n are ∙ ap (option_map (λ (m : BlifModel). distinct (interface_of m))) here in cc
+
+-- the clocks of the models of a file
+pub clocks_given : (blif : Blif) (listed clocks : List (List (List ℕ))) (models : List BlifModel) → IsBlif blif → clocks ≡ listed → listed ≡ map (λ (m : BlifModel). distinct m.clocks) models → models ≡ blif.models → AreClocks blif clocks
+clocks_given blif listed clocks models is e l m = record {
+  models = is.models;
+  clocks_are = e ∙ l ∙ ap (map (λ (m : BlifModel). distinct m.clocks)) m;
+}
+
+clocks_at : (blif : Blif) (tables : Tables) (clocks : List (List (List ℕ))) (name f : List ℕ) (number : ℕ) → AreTables blif tables → AreClocks blif clocks → number ≡ unwrap_or (position (bytes_eq name) tables.names) 0
+    → has_name (get_or clocks number []) f ≡ has_name (model_at blif (model_numbered blif name)).clocks f
+clocks_at blif tables clocks name f number are is n =
+    ap₂ (λ (xs : List (List (List ℕ))) k. has_name (get_or xs k []) f) is.clocks_are (n ∙ ap (λ (o : Option ℕ). unwrap_or o 0) (place_is blif tables name are))
+    ∙ ap (λ (ns : List (List ℕ)). has_name ns f) (list_at (λ (m : BlifModel). distinct m.clocks) blif.models (model_numbered blif name) refl)
+    ∙ once_has_same (model_at blif (model_numbered blif name)).clocks f
 
 interface_at : (blif : Blif) (tables : Tables) (name f : List ℕ) (number : ℕ) → AreTables blif tables → number ≡ unwrap_or (position (bytes_eq name) tables.names) 0
     → has_name (get_or tables.interfaces number []) f ≡ has_name (interface_of (model_at blif (model_numbered blif name))) f
@@ -119,18 +198,21 @@ interface_at blif tables name f number are n =
     ∙ ap (λ (ns : List (List ℕ)). has_name ns f) (list_at (λ (m : BlifModel). distinct (interface_of m)) blif.models (model_numbered blif name) refl)
     ∙ once_has_same (interface_of (model_at blif (model_numbered blif name))) f
 
-pub reading_is : (blif : Blif) (tables : Tables) (reads : List (List (List ℕ))) (s : SubLine) (t : Tie) (name f : List ℕ) (number : ℕ) → AreTables blif tables → AreReads blif reads → name ≡ s.model → f ≡ t.formal
-    → number ≡ unwrap_or (position (bytes_eq name) tables.names) 0 → has_name (get_or reads number []) f ≡ is_reading blif s t
-reading_is blif tables reads s t name f number are is sn fn n =
-    ap (has_name (get_or reads number [])) fn ∙ reads_at blif tables reads s.model t.formal number are is (n ∙ ap (λ (x : List ℕ). unwrap_or (position (bytes_eq x) tables.names) 0) sn)
+pub reading_is : (blif : Blif) (tables : Tables) (clocks : List (List (List ℕ))) (s : SubLine) (t : Tie) (name f : List ℕ) (number : ℕ) → AreTables blif tables → AreClocks blif clocks → name ≡ s.model → f ≡ t.formal
+    → number ≡ unwrap_or (position (bytes_eq name) tables.names) 0 → (has_name (model_at blif number).inputs f || has_name (get_or clocks number []) f) ≡ is_reading blif s t
+reading_is blif tables clocks s t name f number are is sn fn n =
+    let numbered : number ≡ unwrap_or (position (bytes_eq s.model) tables.names) 0 = n ∙ ap (λ (x : List ℕ). unwrap_or (position (bytes_eq x) tables.names) 0) sn in
+    let m = model_at blif (model_numbered blif s.model) in
+    ap (λ (x : List ℕ). has_name (model_at blif number).inputs x || has_name (get_or clocks number []) x) fn
+    ∙ ap₂ (λ (k : ℕ) b. has_name (model_at blif k).inputs t.formal || b) (numbered ∙ ap (λ (o : Option ℕ). unwrap_or o 0) (place_is blif tables s.model are)) (clocks_at blif tables clocks s.model t.formal number are is numbered)
+    ∙ sym (list_any-append (bytes_eq t.formal) m.inputs m.clocks)
 
-pub driving_is : (blif : Blif) (tables : Tables) (reads : List (List (List ℕ))) (s : SubLine) (t : Tie) (name f : List ℕ) (number : ℕ) → AreTables blif tables → AreReads blif reads → name ≡ s.model → f ≡ t.formal
-    → number ≡ unwrap_or (position (bytes_eq name) tables.names) 0 → (has_name (get_or tables.interfaces number []) f && not (has_name (get_or reads number []) f)) ≡ is_driving blif s t
-driving_is blif tables reads s t name f number are is sn fn n =
-    ap₂ (λ a b. a && not b)
+pub driving_is : (blif : Blif) (tables : Tables) (s : SubLine) (t : Tie) (name f : List ℕ) (number : ℕ) → AreTables blif tables → name ≡ s.model → f ≡ t.formal
+    → number ≡ unwrap_or (position (bytes_eq name) tables.names) 0 → (has_name (get_or tables.interfaces number []) f && not (is_reading blif s t)) ≡ is_driving blif s t
+driving_is blif tables s t name f number are sn fn n =
+    ap (λ a. a && not (is_reading blif s t))
     (ap (has_name (get_or tables.interfaces number [])) fn ∙ interface_at blif tables s.model t.formal number are (n ∙ ap (λ (x : List ℕ). unwrap_or (position (bytes_eq x) tables.names) 0) sn)
     ∙ list_any-append (bytes_eq t.formal) ((model_at blif (model_numbered blif s.model)).inputs ++ (model_at blif (model_numbered blif s.model)).clocks) (model_at blif (model_numbered blif s.model)).outputs)
-    (reading_is blif tables reads s t name f number are is sn fn n)
     ∙ by_tests (is_reading blif s t) (has_name (model_at blif (model_numbered blif s.model)).outputs t.formal) where
       by_tests : (r o : Bool) → ((r || o) && not r) ≡ (o && not r)
       by_tests true true = refl

@@ -15,11 +15,10 @@ use Rattle.vrt_model.specs.declared.blif.CoverLine.{CoverLine}
 use Rattle.vrt_model.specs.declared.blif.LatchLine.{LatchLine}
 use Rattle.vrt_model.specs.declared.blif.SubLine.{SubLine}
 use Rattle.blif_checks.specs.Judged.{Judges}
-use Rattle.blif_checks.specs.Least.{AreNotesOf, IsOnLine, IsShown, MentionsGive, is_bad, of_driver, passes_on}
+use Rattle.blif_checks.specs.Least.{AreNotesOf, IsOnLine, MentionsGive, is_bad, of_driver, passes_on}
 use Rattle.blif_checks.specs.Mentions.{cover_mentions, latch_mentions, mentions_in, number_among, numbered, sub_mentions}
 use Rattle.blif_checks.specs.Notes.{AreNotes, IsNote, count_to, is_first_use, is_line, is_second, lines_for, option_is}
 use Rattle.blif_checks.specs.declared.faults.ModelFault.{ModelFault}
-use Rattle.blif_checks.specs.declared.judge.Shown.{Shown}
 use Rattle.blif_checks.specs.declared.mentions.Mention.{Mention}
 use Rattle.blif_checks.specs.declared.notes.Note.{Note}
 use Rattle.blif_checks.proofs.NoteLaws.{below, eq_no, eq_yes, has_line, lt_no, second_there, use_there}
@@ -255,11 +254,11 @@ first_fault_is h f (x ∷ lines) only i l at e = by_head (only x) i at (λ j her
   by_head (inl none) (suc j) at rest = ap (λ p. slice_get (cons_option p (filter_map h lines)) 0) none ∙ rest j at
   by_head (inr some) i at rest = ap (λ p. slice_get (cons_option p (filter_map h lines)) 0) some
 
-no_faults : {F : Type 0} (h : ℕ → Option F) (lines : List ℕ) → ((l : ℕ) → h l ≡ None) → slice_get (filter_map h lines) 0 ≡ None
+pub no_faults : {F : Type 0} (h : ℕ → Option F) (lines : List ℕ) → ((l : ℕ) → h l ≡ None) → slice_get (filter_map h lines) 0 ≡ None
 no_faults h [] none = refl
 no_faults h (x ∷ lines) none = ap (λ p. slice_get (cons_option p (filter_map h lines)) 0) (none x) ∙ no_faults h lines none
 
-cond_none : {F : Type 0} (b : Bool) (o : Option F) → o ≡ None → cond b o None ≡ None
+pub cond_none : {F : Type 0} (b : Bool) (o : Option F) → o ≡ None → cond b o None ≡ None
 cond_none true o e = e
 cond_none false o e = refl
 
@@ -389,7 +388,7 @@ line_there blif m notes names line i o are at bad here =
       or_end true = refl
       or_end false = refl
 
-abbrev told_on : Blif → BlifModel → ℕ → Option DriverFault
+abbrev pub told_on : Blif → BlifModel → ℕ → Option DriverFault
 told_on blif m line = cond (is_least_bad blif m line) (fault_on blif m line) None
 
 -- a fault on a line, where no lower line has one
@@ -443,9 +442,3 @@ judged blif m notes names mentions (Err f) are same (inr found) =
       low : (l : ℕ) → l < found.0 → (b : Bool) (line : ℕ) → (b ≡ true → found.0 ≤ line) → line ≡ l → b ≡ false
       low l lt true line above h = absurd (omega (arith, above refl, lt, h))
       low l lt false line above h = refl
-
-pub judged_shown : {T : Type 0} (blif : Blif) (m : BlifModel) (shown : Shown) (notes : List Note) (mentions : List Mention) (r : Result T ModelFault) → IsShown blif m shown → notes ≡ shown.notes.items → mentions ≡ shown.mentions
-    → MentionsGive notes shown.names mentions r → Judges r (option_map of_driver (own_fault blif m))
-judged_shown blif m shown notes mentions r is n e gives =
-    judged blif m shown.notes.items shown.names shown.mentions r is.notes is.mentions
-    (subst (λ (ms : List Mention). MentionsGive shown.notes.items shown.names ms r) e (subst (λ (ns : List Note). MentionsGive ns shown.names mentions r) n gives))

@@ -7,3 +7,4 @@ pub mod LeastLaws
 pub mod DriverLaws
 pub mod JudgeLaws
 pub mod CheckLaws
+pub mod GoodLaws

@@ -1,5 +1,6 @@
 -- What drives the signals of a model, and what uses them.
-use Rattle.std.specs.Prelude.{◌≡◌, ℕ, Bool, min, not, List, ◌++◌, ◌∷◌, map, filter, option_to_list, unwrap_or}
+use Rattle.std.specs.Prelude.{◌≡◌, ℕ, All, Bool, min, not, List, ◌∷◌, map, filter, option_to_list, unwrap_or}
+use Rattle.vrt_model.specs.Inputs.{IsModel}
 use Rattle.vrt_model.specs.Lists.{distinct, has_name}
 use Rattle.vrt_model.specs.Models.{OnLine, is_driving, is_reading, line_in, on_line}
 use Rattle.vrt_model.specs.declared.blif.Blif.{Blif}
@@ -10,12 +11,10 @@ use Rattle.vrt_model.specs.declared.blif.Tie.{Tie}
 use Rattle.blif_checks.specs.declared.roles.Role.{Role}
 use Rattle.blif_checks.specs.declared.roles.Role.TheVariants.{Driving, Reading}
 
--- the signals that each model reads, each once
-abbrev pub read_by : BlifModel → List (List ℕ)
-read_by m = distinct (m.inputs ++ m.clocks)
-
-abbrev pub AreReads : Blif → List (List (List ℕ)) → Type 0
-AreReads blif reads = reads ≡ map read_by blif.models
+-- of models such as a reader gives, the clocks of each, each once
+pub record AreClocks (blif : Blif) (clocks : List (List (List ℕ))) : Type 0 where
+  pub models : All IsModel blif.models
+  pub clocks_are : clocks ≡ map (λ (m : BlifModel). distinct m.clocks) blif.models
 
 -- an input, at the earlier of its line and that of the clock of its name
 abbrev pub at_earlier : List OnLine → OnLine → OnLine

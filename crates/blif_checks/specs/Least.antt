@@ -8,7 +8,6 @@ use Rattle.blif_checks.specs.Mentions.{mentions_in, numbered}
 use Rattle.blif_checks.specs.Notes.{AreNotes, is_first_use, is_second}
 use Rattle.blif_checks.specs.declared.faults.ModelFault.{ModelFault}
 use Rattle.blif_checks.specs.declared.faults.ModelFault.TheVariants.{DrivenTwice, Undriven, NoMemory}
-use Rattle.blif_checks.specs.declared.judge.Shown.{Shown}
 use Rattle.blif_checks.specs.declared.mentions.Mention.{Mention}
 use Rattle.blif_checks.specs.declared.notes.Note.{Note}
 
@@ -49,10 +48,6 @@ pub record AreNotesOf (blif : Blif) (m : BlifModel) (notes : List Note) (names :
   pub known : (i : ℕ) (o : OnLine) → At (mentions_in m) i o → has_name names o.name ≡ true
   pub count : length notes ≡ length names
   pub notes_are : AreNotes notes (map (numbered names) (drivers_in blif m)) (map (numbered names) (uses_in blif m))
-
-pub record IsShown (blif : Blif) (m : BlifModel) (shown : Shown) : Type 0 where
-  pub notes : AreNotesOf blif m shown.notes.items shown.names
-  pub mentions : shown.mentions ≡ map (numbered shown.names) (mentions_in m)
 
 abbrev pub MentionsGive : {T : Type 0} → List Note → List (List ℕ) → List Mention → Result T ModelFault → Type 0
 MentionsGive notes names mentions (Ok x) = (i : ℕ) (o : Mention) → At mentions i o → is_bad notes o ≡ false

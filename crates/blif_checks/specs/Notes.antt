@@ -1,5 +1,5 @@
 -- On which lines a signal is driven and used.
-use Rattle.std.specs.Prelude.{◌≡◌, ℕ, suc, Bool, false, not, cond, ◌&&◌, ◌==◌, is_none, nat_lt, List, [], ◌∷◌, map, filter, slice_get, Option, Some, None}
+use Rattle.std.specs.Prelude.{◌≡◌, ℕ, suc, Bool, false, not, cond, ◌&&◌, ◌||◌, ◌==◌, is_none, is_some, nat_lt, List, [], ◌∷◌, map, filter, slice_get, Option, Some, None}
 use Rattle.blif_checks.specs.declared.mentions.Mention.{Mention}
 use Rattle.blif_checks.specs.declared.notes.Note.{Note}
 
@@ -44,3 +44,7 @@ is_second notes o = option_is (λ (note : Note). is_line note.second o.line) (sl
 
 abbrev pub is_first_use : List Note → Mention → Bool
 is_first_use notes o = option_is (λ (note : Note). is_none note.first && is_line note.used o.line) (slice_get notes o.signal)
+
+-- a signal has one driver, or is neither driven nor used
+abbrev pub is_good : Note → Bool
+is_good note = is_none note.second && (is_some note.first || is_none note.used)

@@ -6,7 +6,7 @@ ghost use Rattle.vrt_model.specs.Models.{drivers_in, line_in, listed_inputs, on_
 ghost use Rattle.vrt_model.specs.declared.blif.CoverLine.{CoverLine as CoverValue};
 ghost use Rattle.vrt_model.specs.declared.blif.LatchLine.{LatchLine as LatchValue};
 ghost use Rattle.vrt_model.specs.Inputs.{IsModel};
-ghost use Rattle.blif_checks.specs.Drivers.{AreReads, at_earlier, others};
+ghost use Rattle.blif_checks.specs.Drivers.{AreClocks, at_earlier, others};
 ghost use Rattle.blif_checks.specs.Mentions.{numbered};
 ghost use Rattle.blif_checks.specs.Parts.{part_of};
 ghost use Rattle.blif_checks.specs.Tables.{AreTables};
@@ -144,6 +144,31 @@ fn once(alloc: Global, signals: &[Text]) -> Result<Names, NoMemory>
     Ok(names)
 }
 
+/// Adds the clocks of a model that are no inputs. Where it has no clocks, its inputs are not looked up.
+#[tactic(auto, using(crate::proofs::DriverLaws::clocks_are, crate::proofs::DriverLaws::no_clocks))]
+fn add_own_clocks(
+    alloc: Global,
+    list: &mut Seq<Mention>,
+    names: &Names,
+    model: &BlifModel,
+) -> Result<(), NoMemory>
+    requires { IsModel model.now }
+    ensures { OnOk result (list.new ≡ list.old ++ map (numbered names.now) (others model.now.inputs (on_lines model.now.clocks model.now.clock_lines))) }
+{
+    if model.clocks.is_empty() {
+        return Ok(());
+    }
+    let inputs = once(alloc, model.inputs.as_slice())?;
+    add_clocks(
+        list,
+        names,
+        &inputs,
+        model.clocks.as_slice(),
+        model.clock_lines.as_slice(),
+    )?;
+    Ok(())
+}
+
 /// Adds the inputs and clocks of a model.
 fn add_heads(
     alloc: Global,
@@ -154,7 +179,6 @@ fn add_heads(
     requires { IsModel model.now }
     ensures { OnOk result (list.new ≡ list.old ++ map (numbered names.now) (listed_inputs model.now)) }
 {
-    let inputs = once(alloc, model.inputs.as_slice())?;
     let clocks = once(alloc, model.clocks.as_slice())?;
     let clock_lines = model.clock_lines.as_slice();
     let input_lines = model.input_lines.as_slice();
@@ -166,7 +190,7 @@ fn add_heads(
         model.inputs.as_slice(),
         input_lines,
     )?;
-    add_clocks(list, names, &inputs, model.clocks.as_slice(), clock_lines)?;
+    add_own_clocks(alloc, list, names, model)?;
     Ok(())
 }
 
@@ -176,12 +200,12 @@ pub(crate) fn drivers_of(
     names: &Names,
     blif: &Blif,
     tables: &Tables,
-    reads: &[Names],
+    clocks: &[Names],
     part: Part,
     model: &BlifModel,
 ) -> Result<Seq<Mention>, NoMemory>
     requires tables { AreTables blif.now tables.now }
-    requires reads { AreReads blif.now reads.now }
+    requires clocks { AreClocks blif.now clocks.now }
     requires model { IsModel model.now }
     ensures { IfOk result (λ list. list ≡ map (numbered names.now) (drivers_in blif.now (part_of part model.now))) }
 {
@@ -194,7 +218,7 @@ pub(crate) fn drivers_of(
         names,
         blif,
         tables,
-        reads,
+        clocks,
         Role::Driving,
         subs_of(part, model),
     )?;

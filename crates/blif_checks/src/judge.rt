@@ -1,12 +1,14 @@
 //! The first signal of a model with two drivers or none.
 
-ghost use Rattle.std.specs.Prelude.{◌≡◌, ◌⊎◌, [], Some, cond, find, get_or, option_map, IfOk};
+ghost use Rattle.std.specs.Prelude.{◌≡◌, ◌⊎◌, [], Some, cond, find, get_or, map, option_map, IfOk};
+ghost use Rattle.std.specs.List.{list_all};
 ghost use Rattle.vrt_model.specs.Inputs.{IsBlif, IsModel};
-ghost use Rattle.vrt_model.specs.Models.{driver_fault, driver_fault_in, own_fault};
-ghost use Rattle.blif_checks.specs.Drivers.{AreReads};
+ghost use Rattle.vrt_model.specs.Models.{driver_fault, driver_fault_in, network_of, own_fault};
+ghost use Rattle.blif_checks.specs.Drivers.{AreClocks};
 ghost use Rattle.blif_checks.specs.Judged.{Judges};
-ghost use Rattle.blif_checks.specs.Least.{IsLeastLine, IsShown, MentionsGive, earlier_line, is_bad, of_driver, passes_on};
-ghost use Rattle.blif_checks.specs.Notes.{is_first_use, is_line, is_second};
+ghost use Rattle.blif_checks.specs.Least.{AreNotesOf, IsLeastLine, MentionsGive, earlier_line, is_bad, of_driver, passes_on};
+ghost use Rattle.blif_checks.specs.Mentions.{mentions_in, numbered};
+ghost use Rattle.blif_checks.specs.Notes.{is_first_use, is_good, is_line, is_second};
 ghost use Rattle.blif_checks.specs.Parts.{earlier_told, is_line_before, part_of};
 ghost use Rattle.blif_checks.specs.Shown.{line_of};
 ghost use Rattle.blif_checks.specs.Tables.{AreTables};
@@ -16,7 +18,7 @@ use crate::drivers::drivers_of;
 use crate::mentions::{Mention, mentions_of};
 use crate::notes::{Note, notes_of};
 use crate::part::Part;
-use crate::roles::reads_of;
+use crate::roles::all_clocks;
 use crate::signals::named_of;
 use crate::tables::Tables;
 use crate::uses::uses_of;
@@ -198,48 +200,84 @@ fn judge_mentions(
     }
 }
 
-/// The names of a model's signals, what is noted of them, and where they are mentioned.
-pub(crate) struct Shown {
+/// Whether a signal has one driver, or is neither driven nor used.
+fn is_good(note: Note) -> bool
+    ensures { result ≡ is_good note }
+{
+    note.second.is_none() && (note.first.is_some() || note.used.is_none())
+}
+
+/// Whether that is so of all signals.
+fn are_good(notes: &[Note]) -> bool
+    ensures { result ≡ list_all is_good notes.now }
+{
+    for note in notes {
+        if !is_good(*note) {
+            return false;
+        }
+    }
+    true
+}
+
+/// The names of a model's signals, and what is noted of them.
+pub(crate) struct Noted {
     pub(crate) names: Names,
     pub(crate) notes: Vec<Note>,
-    pub(crate) mentions: Seq<Mention>,
 }
 
 /// By hand, so that letting go of one is a call.
-impl Drop for Shown {
+impl Drop for Noted {
     fn drop(self) {
-        let Shown {
+        let Noted {
             names: _names,
             notes: _notes,
-            mentions: _mentions,
         } = self;
     }
 }
 
-/// What is shown of a model or its network.
-fn shown_of(
+/// What is noted of a model or its network.
+fn noted_of(
     alloc: Global,
     blif: &Blif,
     tables: &Tables,
-    reads: &[Names],
+    clocks: &[Names],
     part: Part,
     model: &BlifModel,
-) -> Result<Shown, NoMemory>
+) -> Result<Noted, NoMemory>
     requires tables { AreTables blif.now tables.now }
-    requires reads { AreReads blif.now reads.now }
+    requires clocks { AreClocks blif.now clocks.now }
     requires model { IsModel model.now }
-    ensures { IfOk result (λ shown. IsShown blif.now (part_of part model.now) shown) }
+    ensures { IfOk result (λ noted. AreNotesOf blif.now (part_of part model.now) noted.notes.items noted.names) }
 {
     let names = named_of(alloc, part, model)?;
-    let drivers = drivers_of(alloc, &names, blif, tables, reads, part, model)?;
-    let uses = uses_of(alloc, &names, blif, tables, reads, part, model)?;
+    let drivers = drivers_of(alloc, &names, blif, tables, clocks, part, model)?;
+    let uses = uses_of(alloc, &names, blif, tables, clocks, part, model)?;
     let notes = notes_of(alloc, names.len(), drivers.as_slice(), uses.as_slice())?;
-    let mentions = mentions_of(alloc, &names, part, model)?;
-    Ok(Shown {
-        names,
-        notes,
-        mentions,
-    })
+    Ok(Noted { names, notes })
+}
+
+/// Refuses the first bad mention in a model or its network. No list of mentions is made where no note is bad.
+#[tactic(auto, using(crate::proofs::GoodLaws::none_bad))]
+fn judge_noted(
+    alloc: Global,
+    noted: &Noted,
+    part: Part,
+    model: &BlifModel,
+) -> Result<(), ModelFault>
+    ensures { MentionsGive noted.now.notes.items noted.now.names (map (numbered noted.now.names) (mentions_in (part_of part model.now))) result }
+{
+    if are_good(noted.notes.as_slice()) {
+        return Ok(());
+    }
+    let Ok(mentions) = mentions_of(alloc, &noted.names, part, model) else {
+        return Err(ModelFault::NoMemory);
+    };
+    judge_mentions(
+        alloc,
+        noted.notes.as_slice(),
+        &noted.names,
+        mentions.as_slice(),
+    )
 }
 
 /// Refuses the first signal of a model, or of its network, with two drivers or none.
@@ -247,24 +285,40 @@ fn judge_part(
     alloc: Global,
     blif: &Blif,
     tables: &Tables,
-    reads: &[Names],
+    clocks: &[Names],
     part: Part,
     model: &BlifModel,
 ) -> Result<(), ModelFault>
     requires tables { AreTables blif.now tables.now }
-    requires reads { AreReads blif.now reads.now }
+    requires clocks { AreClocks blif.now clocks.now }
     requires model { IsModel model.now }
     ensures { Judges result (option_map of_driver (own_fault blif.now (part_of part model.now))) }
 {
-    let Ok(shown) = shown_of(alloc, blif, tables, reads, part, model) else {
+    let Ok(noted) = noted_of(alloc, blif, tables, clocks, part, model) else {
         return Err(ModelFault::NoMemory);
     };
-    judge_mentions(
-        alloc,
-        shown.notes.as_slice(),
-        &shown.names,
-        shown.mentions.as_slice(),
-    )
+    judge_noted(alloc, &noted, part, model)
+}
+
+/// Refuses the first signal of a model's network with two drivers or none. Where there is no network nothing is asked: the inputs
+/// and clocks are driven once each, and nothing uses a signal.
+#[tactic(auto, using(crate::proofs::GoodLaws::no_network))]
+fn judge_network(
+    alloc: Global,
+    blif: &Blif,
+    tables: &Tables,
+    clocks: &[Names],
+    model: &BlifModel,
+) -> Result<(), ModelFault>
+    requires tables { AreTables blif.now tables.now }
+    requires clocks { AreClocks blif.now clocks.now }
+    requires model { IsModel model.now }
+    ensures { Judges result (option_map of_driver (own_fault blif.now (network_of model.now))) }
+{
+    if model.exdc.is_empty() {
+        return Ok(());
+    }
+    judge_part(alloc, blif, tables, clocks, Part::Network, model)
 }
 
 /// Whether a line is less than another; none comes before all.
@@ -299,16 +353,16 @@ fn judge_model(
     alloc: Global,
     blif: &Blif,
     tables: &Tables,
-    reads: &[Names],
+    clocks: &[Names],
     model: &BlifModel,
 ) -> Result<(), ModelFault>
     requires tables { AreTables blif.now tables.now }
-    requires reads { AreReads blif.now reads.now }
+    requires clocks { AreClocks blif.now clocks.now }
     requires model { IsModel model.now }
     ensures { Judges result (option_map of_driver (driver_fault_in blif.now model.now)) }
 {
-    let network = judge_part(alloc, blif, tables, reads, Part::Network, model);
-    match judge_part(alloc, blif, tables, reads, Part::Own, model) {
+    let network = judge_network(alloc, blif, tables, clocks, model);
+    match judge_part(alloc, blif, tables, clocks, Part::Own, model) {
         Ok(()) => network,
         Err(fault) => Err(earlier_of(fault, network)),
     }
@@ -319,15 +373,15 @@ fn judge_models(
     alloc: Global,
     blif: &Blif,
     tables: &Tables,
-    reads: &[Names],
+    clocks: &[Names],
 ) -> Result<(), ModelFault>
     requires blif { IsBlif blif.now }
     requires tables { AreTables blif.now tables.now }
-    requires reads { AreReads blif.now reads.now }
+    requires clocks { AreClocks blif.now clocks.now }
     ensures { Judges result (option_map of_driver (driver_fault blif.now)) }
 {
     for model in blif.models.as_slice() {
-        judge_model(alloc, blif, tables, reads, model)?;
+        judge_model(alloc, blif, tables, clocks, model)?;
     }
     Ok(())
 }
@@ -340,8 +394,8 @@ pub fn check_drivers(alloc: Global, blif: &Blif, tables: &Tables) -> Result<(), 
     requires tables { AreTables blif.now tables.now }
     ensures { Judges result (option_map of_driver (driver_fault blif.now)) }
 {
-    let Ok(reads) = reads_of(alloc, blif.models.as_slice()) else {
+    let Ok(clocks) = all_clocks(alloc, blif.models.as_slice()) else {
         return Err(ModelFault::NoMemory);
     };
-    judge_models(alloc, blif, tables, reads.as_slice())
+    judge_models(alloc, blif, tables, clocks.as_slice())
 }

@@ -1,9 +1,10 @@
 //! Which formals a model reads and which it drives.
 
-ghost use Rattle.std.specs.Prelude.{◌≡◌, ◌&&◌, [], get_or, map, not, IfOk};
-ghost use Rattle.vrt_model.specs.Lists.{has_name};
+ghost use Rattle.std.specs.Prelude.{◌≡◌, ◌&&◌, ◌||◌, [], get_or, length, map, not, take, IfOk};
+ghost use Rattle.vrt_model.specs.FlatBlif.{model_at};
+ghost use Rattle.vrt_model.specs.Lists.{distinct, has_name};
 ghost use Rattle.vrt_model.specs.Models.{is_driving, is_reading};
-ghost use Rattle.blif_checks.specs.Drivers.{AreReads, in_role, read_by};
+ghost use Rattle.blif_checks.specs.Drivers.{AreClocks, in_role};
 ghost use Rattle.blif_checks.specs.Tables.{AreTables};
 
 use crate::inner::number_of;
@@ -21,28 +22,60 @@ pub(crate) enum Role {
     Reading,
 }
 
-/// The signals that a model reads, each once.
-fn read_by(alloc: Global, model: &BlifModel) -> Result<Names, NoMemory>
-    ensures { IfOk result (λ names. names ≡ read_by model.now) }
+/// The clocks of a model, each once.
+fn clocks_in(alloc: Global, model: &BlifModel) -> Result<Names, NoMemory>
+    ensures { IfOk result (λ names. names ≡ distinct model.now.clocks) }
 {
     let mut names = Names::new(alloc);
-    names.add_all(model.inputs.as_slice())?;
     names.add_all(model.clocks.as_slice())?;
     Ok(names)
 }
 
-/// The signals that each model reads.
-pub(crate) fn reads_of(alloc: Global, models: &[BlifModel]) -> Result<Seq<Names>, NoMemory>
-    ensures { IfOk result (λ reads. reads ≡ map read_by models.now) }
+/// The clocks of each model.
+pub(crate) fn all_clocks(alloc: Global, models: &[BlifModel]) -> Result<Seq<Names>, NoMemory>
+    ensures { IfOk result (λ clocks. clocks ≡ map (λ m. distinct m.clocks) models.now) }
 {
-    let mut reads = Seq::new(alloc);
+    let mut clocks = Seq::new(alloc);
     for model in models {
-        let one = read_by(alloc, model)?;
-        if reads.push(one).is_err() {
+        let one = clocks_in(alloc, model)?;
+        if clocks.push(one).is_err() {
             return Err(NoMemory);
         }
     }
-    Ok(reads)
+    Ok(clocks)
+}
+
+/// Whether a name is one of so many that come first.
+fn is_among_first(names: &Names, count: usize, name: &[u8]) -> bool
+    ensures { result ≡ has_name (take count names.now) name.now }
+{
+    match names.place(name) {
+        Some(place) => place < count,
+        None => false,
+    }
+}
+
+/// How many inputs a model has, by its number.
+fn count_of_inputs(blif: &Blif, number: usize) -> usize
+    ensures { result ≡ length (model_at blif.now number).inputs }
+{
+    match blif.models.get(number) {
+        Some(model) => model.inputs.len(),
+        None => 0,
+    }
+}
+
+/// Whether a model, by its number, has an input. Its inputs come first in its interface.
+#[tactic(auto, using(crate::proofs::DriverLaws::input_is, crate::proofs::DriverLaws::input_none))]
+fn is_input(blif: &Blif, tables: &Tables, clocks: &[Names], number: usize, name: &[u8]) -> bool
+    requires tables { AreTables blif.now tables.now }
+    requires clocks { AreClocks blif.now clocks.now }
+    ensures { result ≡ has_name (model_at blif.now number).inputs name.now }
+{
+    match tables.interfaces.get(number) {
+        Some(interface) => is_among_first(interface, count_of_inputs(blif, number), name),
+        None => false,
+    }
 }
 
 /// Whether a list of lists of names, at a number, has a name.
@@ -62,26 +95,35 @@ fn is_first_alone(first: bool, second: bool) -> bool
     first && !second
 }
 
+/// Whether one or the other holds.
+fn is_either(first: bool, second: bool) -> bool
+    ensures { result ≡ (first || second) }
+{
+    first || second
+}
+
 /// Whether a sub-model reads what is tied.
-fn is_reading(blif: &Blif, tables: &Tables, reads: &[Names], sub: &SubLine, tie: &Tie) -> bool
+fn is_reading(blif: &Blif, tables: &Tables, clocks: &[Names], sub: &SubLine, tie: &Tie) -> bool
     requires tables { AreTables blif.now tables.now }
-    requires reads { AreReads blif.now reads.now }
+    requires clocks { AreClocks blif.now clocks.now }
     ensures { result ≡ is_reading blif.now sub.now tie.now }
 {
     let number = number_of(&tables.names, sub.model.as_bytes());
-    has_at(reads, number, tie.formal.as_bytes())
+    let formal = tie.formal.as_bytes();
+    let among_inputs = is_input(blif, tables, clocks, number, formal);
+    let among_clocks = has_at(clocks, number, formal);
+    is_either(among_inputs, among_clocks)
 }
 
 /// Whether a sub-model drives what is tied.
-fn is_driving(blif: &Blif, tables: &Tables, reads: &[Names], sub: &SubLine, tie: &Tie) -> bool
+fn is_driving(blif: &Blif, tables: &Tables, clocks: &[Names], sub: &SubLine, tie: &Tie) -> bool
     requires tables { AreTables blif.now tables.now }
-    requires reads { AreReads blif.now reads.now }
+    requires clocks { AreClocks blif.now clocks.now }
     ensures { result ≡ is_driving blif.now sub.now tie.now }
 {
     let number = number_of(&tables.names, sub.model.as_bytes());
-    let formal = tie.formal.as_bytes();
-    let known = has_at(tables.interfaces.as_slice(), number, formal);
-    let read = has_at(reads, number, formal);
+    let known = has_at(tables.interfaces.as_slice(), number, tie.formal.as_bytes());
+    let read = is_reading(blif, tables, clocks, sub, tie);
     is_first_alone(known, read)
 }
 
@@ -89,17 +131,17 @@ fn is_driving(blif: &Blif, tables: &Tables, reads: &[Names], sub: &SubLine, tie:
 pub(crate) fn has_role(
     blif: &Blif,
     tables: &Tables,
-    reads: &[Names],
+    clocks: &[Names],
     role: Role,
     sub: &SubLine,
     tie: &Tie,
 ) -> bool
     requires tables { AreTables blif.now tables.now }
-    requires reads { AreReads blif.now reads.now }
+    requires clocks { AreClocks blif.now clocks.now }
     ensures { result ≡ in_role role blif.now sub.now tie.now }
 {
     match role {
-        Role::Driving => is_driving(blif, tables, reads, sub, tie),
-        Role::Reading => is_reading(blif, tables, reads, sub, tie),
+        Role::Driving => is_driving(blif, tables, clocks, sub, tie),
+        Role::Reading => is_reading(blif, tables, clocks, sub, tie),
     }
 }

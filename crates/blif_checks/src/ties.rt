@@ -3,7 +3,7 @@
 ghost use Rattle.std.specs.Prelude.{◌≡◌, ◌++◌, ◌∷◌, [], filter, map, flat_map, OnOk};
 ghost use Rattle.vrt_model.specs.Models.{ties_on};
 ghost use Rattle.vrt_model.specs.declared.blif.SubLine.{SubLine as SubValue};
-ghost use Rattle.blif_checks.specs.Drivers.{AreReads, in_role, tied_on};
+ghost use Rattle.blif_checks.specs.Drivers.{AreClocks, in_role, tied_on};
 ghost use Rattle.blif_checks.specs.Mentions.{numbered};
 ghost use Rattle.blif_checks.specs.Tables.{AreTables};
 
@@ -19,16 +19,16 @@ fn add_tie(
     names: &Names,
     blif: &Blif,
     tables: &Tables,
-    reads: &[Names],
+    clocks: &[Names],
     role: Role,
     sub: &SubLine,
     tie: &Tie,
 ) -> Result<(), NoMemory>
     requires tables { AreTables blif.now tables.now }
-    requires reads { AreReads blif.now reads.now }
+    requires clocks { AreClocks blif.now clocks.now }
     ensures { OnOk result (list.new ≡ list.old ++ map (numbered names.now) (map (tied_on sub.now) (filter (in_role role blif.now sub.now) (tie.now ∷ [])))) }
 {
-    if !has_role(blif, tables, reads, role, sub, tie) {
+    if !has_role(blif, tables, clocks, role, sub, tie) {
         return Ok(());
     }
     add(list, names, sub.line, tie.actual.as_bytes())
@@ -40,17 +40,17 @@ fn add_ties(
     names: &Names,
     blif: &Blif,
     tables: &Tables,
-    reads: &[Names],
+    clocks: &[Names],
     role: Role,
     sub: &SubLine,
     ties: &[Tie],
 ) -> Result<(), NoMemory>
     requires tables { AreTables blif.now tables.now }
-    requires reads { AreReads blif.now reads.now }
+    requires clocks { AreClocks blif.now clocks.now }
     ensures { OnOk result (list.new ≡ list.old ++ map (numbered names.now) (map (tied_on sub.now) (filter (in_role role blif.now sub.now) ties.now))) }
 {
     for tie in ties {
-        add_tie(list, names, blif, tables, reads, role, sub, tie)?;
+        add_tie(list, names, blif, tables, clocks, role, sub, tie)?;
     }
     Ok(())
 }
@@ -61,12 +61,12 @@ pub(crate) fn add_subs(
     names: &Names,
     blif: &Blif,
     tables: &Tables,
-    reads: &[Names],
+    clocks: &[Names],
     role: Role,
     subs: &[SubLine],
 ) -> Result<(), NoMemory>
     requires tables { AreTables blif.now tables.now }
-    requires reads { AreReads blif.now reads.now }
+    requires clocks { AreClocks blif.now clocks.now }
     ensures { OnOk result (list.new ≡ list.old ++ map (numbered names.now) (flat_map (λ (s : SubValue). ties_on (in_role role blif.now s) s) subs.now)) }
 {
     for sub in subs {
@@ -75,7 +75,7 @@ pub(crate) fn add_subs(
             names,
             blif,
             tables,
-            reads,
+            clocks,
             role,
             sub,
             sub.ties.as_slice(),

@@ -3,7 +3,7 @@
 ghost use Rattle.std.specs.Prelude.{◌≡◌, ◌++◌, map, flat_map, IfOk, OnOk};
 ghost use Rattle.vrt_model.specs.Models.{on_line, uses_in};
 ghost use Rattle.vrt_model.specs.declared.blif.CoverLine.{CoverLine as CoverValue};
-ghost use Rattle.blif_checks.specs.Drivers.{AreReads, latch_uses};
+ghost use Rattle.blif_checks.specs.Drivers.{AreClocks, latch_uses};
 ghost use Rattle.blif_checks.specs.Mentions.{numbered};
 ghost use Rattle.blif_checks.specs.Parts.{part_of};
 ghost use Rattle.blif_checks.specs.Tables.{AreTables};
@@ -58,12 +58,12 @@ pub(crate) fn uses_of(
     names: &Names,
     blif: &Blif,
     tables: &Tables,
-    reads: &[Names],
+    clocks: &[Names],
     part: Part,
     model: &BlifModel,
 ) -> Result<Seq<Mention>, NoMemory>
     requires tables { AreTables blif.now tables.now }
-    requires reads { AreReads blif.now reads.now }
+    requires clocks { AreClocks blif.now clocks.now }
     ensures { IfOk result (λ list. list ≡ map (numbered names.now) (uses_in blif.now (part_of part model.now))) }
 {
     let mut list = Seq::new(alloc);
@@ -74,7 +74,7 @@ pub(crate) fn uses_of(
         names,
         blif,
         tables,
-        reads,
+        clocks,
         Role::Reading,
         subs_of(part, model),
     )?;

@@ -1,5 +1,5 @@
 -- What is found phase by phase in the checked circuit of a cell is its verdict.
-use Rattle.std.proofs.Common.{◌≡◌, ℕ, ◌≤◌, false, List, length, ap, sym, subst}
+use Rattle.std.proofs.Common.{◌≡◌, ℕ, ◌≤◌, List, length, ap, sym, subst}
 use Rattle.cell_compare.proofs.Passing.{passed_more}
 use Rattle.cell_compare.specs.Phases.{IsChecked, MayUseUp}
 use Rattle.checked_cells.proofs.CircuitLaws.{chain}
@@ -26,7 +26,7 @@ use Rattle.vrt_model.specs.declared.whole.CellFacts.{CellFacts}
 use Rattle.cell_room.proofs.CheckedLaws.{over_is, ready_with}
 
 -- a budget that may be used up in a phase of the checked circuit lies below what the flat one may need
-pub passed_over : (k : Comparison) (cut : Cut) (blif : Blif) (facts : List CellFacts) (c : Circuit) (budget phase : ℕ) → IsCheckedByFacts false k cut blif facts c → IsReady k → budget ≤ 64000000
+pub passed_over : (k : Comparison) (cut : Cut) (blif : Blif) (facts : List CellFacts) (c : Circuit) (budget phase : ℕ) → IsCheckedByFacts k cut blif facts c → IsReady k → budget ≤ 64000000
     → HasFewOutputs c (length k.circuit.devices) → MayUseUp (with_circuit k c) budget phase → MayPassBudget k blif budget phase
 passed_over k cut blif facts c budget phase h ready small few (plan, is, spend) =
     let x = with_circuit k c in
@@ -38,7 +38,7 @@ passed_over k cut blif facts c budget phase h ready small few (plan, is, spend) 
     passed_more (length (sources_of x phase)) (length (sources_of k phase)) (work_within x (length k.circuit.devices)) (work_of k blif) budget (ap (λ (ss : List Source). length ss) same) less there
 
 -- what is found phase by phase in a checked circuit is the verdict
-pub whole_found : (k : Comparison) (cut : Cut) (blif : Blif) (facts : List CellFacts) (c : Circuit) (budget : ℕ) (verdict : Verdict) → IsCheckedByFacts false k cut blif facts c → IsReady k
+pub whole_found : (k : Comparison) (cut : Cut) (blif : Blif) (facts : List CellFacts) (c : Circuit) (budget : ℕ) (verdict : Verdict) → IsCheckedByFacts k cut blif facts c → IsReady k
     → budget ≤ 64000000 → HasFewOutputs c (length k.circuit.devices) → IsChecked (with_circuit k c) budget verdict → HasCheckedVerdict k blif facts budget verdict
 whole_found k cut blif facts c budget verdict h ready small few found = found_verdicts_hold k cut blif facts c budget verdict h (by_verdict verdict found)
   where

@@ -81,7 +81,7 @@ module _ (design : Design) (blif : Blif) (rules : Rules) (cell : ℕ) (made : Ma
   flat_ready : IsReady (comparison design rules cell made.flattened)
   flat_ready = ready design blif rules cell is.flattened.0 made.flattened inputs is.flattened.1
 
-  pub by_true_facts : IsCheckedByFacts false (comparison design rules cell made.flattened) of.0 blif facts (circuit_in made)
+  pub by_true_facts : IsCheckedByFacts (comparison design rules cell made.flattened) of.0 blif facts (circuit_in made)
   by_true_facts = (checkable design blif rules cell is.flattened.0 made.flattened inputs is.flattened.1 facts true_facts).by_facts (circuit_in made) is.planned of
 
   -- it is the one that is looked through

@@ -1,5 +1,5 @@
 -- The checked circuit of a cell: it may be made, and it is looked through as the flat one is.
-use Rattle.std.proofs.Common.{◌≡◌, ℕ, ◌+◌, ◌*◌, ◌<◌, ◌≤◌, false, List, [], Option, length, arith, ap, sym, subst, ◌∙◌}
+use Rattle.std.proofs.Common.{◌≡◌, ℕ, ◌+◌, ◌*◌, ◌<◌, ◌≤◌, List, [], Option, length, arith, ap, sym, subst, ◌∙◌}
 use Rattle.std.specs.Prelude.{min}
 use Rattle.std.proofs.Math.Nat.{min-le_left}
 use Rattle.blif_eval.specs.declared.plan.ModelPlan.{ModelPlan}
@@ -54,8 +54,8 @@ checkable design blif rules cell m f inputs is facts true_facts =
       flat = is.circuit_is;
       ground = ground_of design blif rules cell m f inputs is facts true_facts;
       by_facts = λ c planned checked.
-          subst (λ (x : Comparison). (y : IsCheckedOf x blif facts c) → IsCheckedByFacts false x y.0 blif facts c) (sym same)
-          (λ y. checked_cells_are_by_facts {all_soft = false} design blif rules cell m facts y.0 c given (supported design blif rules cell m f is planned) true_facts tt y.1 y.2) checked;
+          subst (λ (x : Comparison). (y : IsCheckedOf x blif facts c) → IsCheckedByFacts x y.0 blif facts c) (sym same)
+          (λ y. checked_cells_are_by_facts design blif rules cell m facts y.0 c given (supported design blif rules cell m f is planned) true_facts y.1 y.2) checked;
     }
 
 -- so its checked circuit may be asked for
@@ -76,12 +76,12 @@ flat_wholes k blif facts able formed =
 -- ---- another circuit
 
 -- a checked circuit has the groups of the flat one
-pub over_is : (k : Comparison) (cut : Cut) (blif : Blif) (facts : List CellFacts) (c : Circuit) → IsCheckedByFacts false k cut blif facts c → with_circuit k c ≡ over k c
+pub over_is : (k : Comparison) (cut : Cut) (blif : Blif) (facts : List CellFacts) (c : Circuit) → IsCheckedByFacts k cut blif facts c → with_circuit k c ≡ over k c
 over_is k cut blif facts c h =
     ap (λ (gs : List Group). let one : Comparison = record k { circuit = c; groups = gs } in one) (checked_circuits_share k cut blif facts c h).groups
 
 -- and its variables
-pub vars_over : (k : Comparison) (cut : Cut) (blif : Blif) (facts : List CellFacts) (c : Circuit) (upto : ℕ) (vars : List Vars) → IsCheckedByFacts false k cut blif facts c
+pub vars_over : (k : Comparison) (cut : Cut) (blif : Blif) (facts : List CellFacts) (c : Circuit) (upto : ℕ) (vars : List Vars) → IsCheckedByFacts k cut blif facts c
     → AreVars k upto vars → AreVars (with_circuit k c) upto vars
 vars_over k cut blif facts c upto vars h are = record {
   count = are.count;
@@ -92,7 +92,7 @@ vars_over k cut blif facts c upto vars h are = record {
 }
 
 -- its numbers are in range, and its whole instances determined
-sound_wholes : (k : Comparison) (cut : Cut) (blif : Blif) (facts : List CellFacts) (c : Circuit) (phase : ℕ) → IsCheckedByFacts false k cut blif facts c → phase < length k.rules.phases
+sound_wholes : (k : Comparison) (cut : Cut) (blif : Blif) (facts : List CellFacts) (c : Circuit) (phase : ℕ) → IsCheckedByFacts k cut blif facts c → phase < length k.rules.phases
     → HasSoundWholes c (phase_at k.rules phase) (is_observed (with_circuit k c) phase)
 sound_wholes k cut blif facts c phase h lt = record {
   ranges = (checked_circuits_are_wired k cut blif facts c h).ranges;
@@ -100,23 +100,23 @@ sound_wholes k cut blif facts c phase h lt = record {
 }
 
 -- so it is looked through phase by phase
-pub ready_with : (k : Comparison) (cut : Cut) (blif : Blif) (facts : List CellFacts) (c : Circuit) → IsReady k → IsCheckedByFacts false k cut blif facts c → IsReady (over k c)
+pub ready_with : (k : Comparison) (cut : Cut) (blif : Blif) (facts : List CellFacts) (c : Circuit) → IsReady k → IsCheckedByFacts k cut blif facts c → IsReady (over k c)
 ready_with k cut blif facts c ready h =
     ready_over k c ready (checked_circuits_share k cut blif facts c h) (checked_circuits_are_formed k cut blif facts c h)
     (λ phase lt. subst (λ (x : Comparison). HasSoundWholes c (phase_at k.rules phase) (is_observed x phase)) (over_is k cut blif facts c h) (sound_wholes k cut blif facts c phase h lt))
 
 -- neither its arcs nor those of its model lead around
-pub acyclic_over : (k : Comparison) (cut : Cut) (blif : Blif) (facts : List CellFacts) (c : Circuit) → IsCheckedByFacts false k cut blif facts c → IsPlanned k
+pub acyclic_over : (k : Comparison) (cut : Cut) (blif : Blif) (facts : List CellFacts) (c : Circuit) → IsCheckedByFacts k cut blif facts c → IsPlanned k
     → AcyclicBefore (over k c) (length k.rules.phases)
 acyclic_over k cut blif facts c h planned p lt = (checked_circuits_are_acyclic k cut blif facts c p h lt, (planned.acyclic p lt).1)
 
 -- by the outputs of its whole instances and the orders of their models
-pub table_with : (k : Comparison) (cut : Cut) (blif : Blif) (facts : List CellFacts) (c : Circuit) (drivers : List (Option OutputPlace)) (orders : List ModelPlan) → IsCheckedByFacts false k cut blif facts c
+pub table_with : (k : Comparison) (cut : Cut) (blif : Blif) (facts : List CellFacts) (c : Circuit) (drivers : List (Option OutputPlace)) (orders : List ModelPlan) → IsCheckedByFacts k cut blif facts c
     → AreDrivers c (output_pins c) drivers → AreOrders c.wholes (length c.wholes) orders → IsWholeTable c drivers orders
 table_with k cut blif facts c drivers orders h outputs plans = whole_table c drivers orders outputs plans (λ w on. checked_wholes_are_logic k cut blif facts c w h on)
 
 -- a circuit with no more outputs than this has few
-pub few_outputs : (k : Comparison) (cut : Cut) (blif : Blif) (facts : List CellFacts) (c : Circuit) (most : ℕ) → IsCheckedByFacts false k cut blif facts c
+pub few_outputs : (k : Comparison) (cut : Cut) (blif : Blif) (facts : List CellFacts) (c : Circuit) (most : ℕ) → IsCheckedByFacts k cut blif facts c
     → most ≡ most_outputs k.circuit → length (pins_of c) ≤ most → HasFewOutputs c (length k.circuit.devices)
 few_outputs k cut blif facts c most h is le =
     let devices : ℕ = length k.circuit.devices in

@@ -1,5 +1,5 @@
 -- The checked circuit of a comparison.
-use Rattle.std.specs.Prelude.{◌≡◌, false, List, Option}
+use Rattle.std.specs.Prelude.{◌≡◌, List, Option}
 use Rattle.cell_room.specs.Works.{IsPlanned}
 use Rattle.checked_cells.specs.Given.{IsCheckedOf}
 use Rattle.substitution_laws.specs.Agreement.{IsCheckedByFacts}
@@ -18,7 +18,7 @@ use Rattle.substitute.specs.declared.checked_circuit.CheckedCircuit.{CheckedCirc
 pub record IsCheckable (k : Comparison) (blif : Blif) (facts : List CellFacts) : Type 0 where
   pub flat : k.circuit ≡ flat_circuit_of (top_of k)
   pub ground : IsPlanned k → IsGround (top_of k) blif facts k.circuit
-  pub by_facts : (c : Circuit) → IsPlanned k → (is : IsCheckedOf k blif facts c) → IsCheckedByFacts false k is.0 blif facts c
+  pub by_facts : (c : Circuit) → IsPlanned k → (is : IsCheckedOf k blif facts c) → IsCheckedByFacts k is.0 blif facts c
 
 -- the checked circuit, none where it is the flat one; with its parts, where they are kept
 abbrev pub CheckedGives : Comparison → Blif → List CellFacts → Option CheckedCircuit → Type 0

@@ -121,7 +121,7 @@ module _ (devices fewer : List Device) (outputs more : List OutputAt) (o : Outpu
 
 -- ---- the chain
 
-module _ {all_soft : Bool} (k : Comparison) (cut : Cut) (blif : Blif) (facts : List CellFacts) (c : Circuit) (h : IsCheckedByFacts all_soft k cut blif facts c) where
+module _ (k : Comparison) (cut : Cut) (blif : Blif) (facts : List CellFacts) (c : Circuit) (h : IsCheckedByFacts k cut blif facts c) where
   abbrev t : Top
   t = cut.top
 
@@ -149,7 +149,7 @@ module _ {all_soft : Bool} (k : Comparison) (cut : Cut) (blif : Blif) (facts : L
     abbrev next : (d : Circuit) × IsCircuitWith (before cut (suc i)) blif facts d
     next = chain_is_there cut blif facts c (suc i) h.circuit
 
-    abbrev s : (p : NumberedPlace) × (m : ℕ) × (depth : ℕ) × (front : List Place) × (back : List Place) × IsStepOf all_soft k cut blif facts i p m depth front back there.0 next.0
+    abbrev s : (p : NumberedPlace) × (m : ℕ) × (depth : ℕ) × (front : List Place) × (back : List Place) × IsStepOf k cut blif facts i p m depth front back there.0 next.0
     s = step_at k cut blif facts c h i there.0 next.0 low chosen there.1 next.1
 
     abbrev outs : List OutputAt

@@ -40,7 +40,7 @@ fewer_pass {X} test (x ∷ xs) = by_test (test x) (fewer_pass test xs)
     by_test true rest = omega (arith, rest)
     by_test false rest = omega (arith, rest)
 
-module _ {all_soft : Bool} (k : Comparison) (cut : Cut) (blif : Blif) (facts : List CellFacts) (c : Circuit) (h : IsCheckedByFacts all_soft k cut blif facts c) where
+module _ (k : Comparison) (cut : Cut) (blif : Blif) (facts : List CellFacts) (c : Circuit) (h : IsCheckedByFacts k cut blif facts c) where
   abbrev t : Top
   t = cut.top
 
@@ -124,8 +124,8 @@ module _ {all_soft : Bool} (k : Comparison) (cut : Cut) (blif : Blif) (facts : L
         source = subst (λ (level : ℕ). (level ≡ 8) ⊎ (level ≡ 15)) (flat_source t ∙ sym h.circuit.source) h.formed.source;
       }
 
-pub checked_circuits_share : {all_soft : Bool} → CheckedCircuitsShare all_soft
+pub checked_circuits_share : CheckedCircuitsShare
 checked_circuits_share k cut blif facts c h = shares k cut blif facts c h
 
-pub checked_circuits_are_formed : {all_soft : Bool} → CheckedCircuitsAreFormed all_soft
+pub checked_circuits_are_formed : CheckedCircuitsAreFormed
 checked_circuits_are_formed k cut blif facts c h = formed k cut blif facts c h

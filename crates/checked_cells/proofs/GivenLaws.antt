@@ -1,5 +1,5 @@
 -- What a checked circuit is made of.
-use Rattle.std.proofs.Common.{◌≡◌, ℕ, ◌<◌, Bool, length, refl, ap, sym, subst, ◌∙◌}
+use Rattle.std.proofs.Common.{◌≡◌, ℕ, ◌<◌, length, refl, ap, sym, subst, ◌∙◌}
 use Rattle.checked_cells.proofs.PlacesAlone.{ties_same}
 use Rattle.checked_cells.specs.Given.{CheckedCellsAreByFacts}
 use Rattle.formed_cells.proofs.FormedLaws.{supported_cells_are_formed}
@@ -17,8 +17,8 @@ use Rattle.vrt_model.specs.Unrolled.{Top}
 use Rattle.vrt_model.specs.Unsupported.{IsAcyclic, comparison_of, top_before}
 use Rattle.vrt_model.specs.declared.whole.CellFacts.{CellFacts}
 
-pub checked_cells_are_by_facts : {all_soft : Bool} → CheckedCellsAreByFacts all_soft
-checked_cells_are_by_facts design blif rules cell m facts cut c given supported facts_are soft top checked =
+pub checked_cells_are_by_facts : CheckedCellsAreByFacts
+checked_cells_are_by_facts design blif rules cell m facts cut c given supported facts_are top checked =
     let k : Comparison = comparison_of design blif rules cell m in
     let back : top_of k ≡ cut.top = sym top in
     let free = supported_is_free design blif rules cell m supported in
@@ -33,7 +33,6 @@ checked_cells_are_by_facts design blif rules cell m facts cut c given supported 
         netlist = subst IsSoundNetlist back sound;
         read = subst (λ (u : Top). AreRead blif u.rules) back given.read;
         told = subst (λ (u : Top). (n : ℕ) (f : CellFacts) → At facts n f → IsTrueOf u.design blif u.rules n f) back facts_are.told;
-        soft = soft;
         tried = checked.chosen;
       };
       top = top;

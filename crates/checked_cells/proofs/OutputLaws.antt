@@ -4,15 +4,15 @@ use Rattle.std.proofs.lemmas.Bool.{cases_Bool, false≢true}
 use Rattle.cell_inside.specs.Inside.{Touches}
 use Rattle.checked_cells.proofs.AllowedOutputs.{Fits, allowed_at, apart_at, devices_at, outputs_at, same_or_other}
 use Rattle.checked_cells.proofs.WholeLaws.{determined, last, ranges, some_phase}
-use Rattle.checked_cells.specs.Outputs.{CheckedOutputsAreAllowed, CheckedOutputsAreFree, HasAllowedOutputs, IsAtGates, IsAtLevel, MeetsByDrive}
+use Rattle.checked_cells.specs.Outputs.{CheckedOutputsAreAllowed, HasAllowedOutputs, IsAtGates, IsAtLevel, MeetsByDrive}
 use Rattle.known_nets.proofs.WiredLaws.{pin_of_whole}
 use Rattle.replaced_instances.proofs.Exposures.{no_channel_at, no_other_at}
 use Rattle.replaced_instances.proofs.PinOutputs.{pin_output, settled}
 use Rattle.replaced_instances.proofs.StepPlaced.{held_with}
 use Rattle.replaced_instances.proofs.StepPorts.{may}
-use Rattle.substitution_laws.proofs.ChosenLaws.{chosen_instances_are_steps, output_soft}
+use Rattle.substitution_laws.proofs.ChosenLaws.{chosen_instances_are_steps}
 use Rattle.substitution_laws.proofs.WholeCells.{whole_chosen}
-use Rattle.substitution_laws.specs.Agreement.{IsCheckedByFacts, IsCheckedSoftly}
+use Rattle.substitution_laws.specs.Agreement.{IsCheckedByFacts}
 use Rattle.vrt_model.proofs.Lists.{one_at}
 use Rattle.vrt_model.proofs.Members.{all_among, among_flat_map}
 use Rattle.vrt_model.specs.Checked.{before, circuit_with, with_one}
@@ -29,21 +29,15 @@ use Rattle.vrt_model.specs.declared.circuit.Circuit.{Circuit}
 use Rattle.vrt_model.specs.declared.circuit.Device.{Device}
 use Rattle.vrt_model.specs.declared.ids.Net.{Net}
 use Rattle.vrt_model.specs.declared.whole.CellFacts.{CellFacts}
-use Rattle.vrt_model.specs.declared.whole.Drive.{Drive}
 use Rattle.vrt_model.specs.declared.whole.Drive.TheVariants.{Soft, Level}
 use Rattle.vrt_model.specs.declared.whole.WholePin.{WholePin}
-use Rattle.whole_steps.specs.FreeOutputs.{HasFreeOutputs}
 
 -- the channel of a device that joins a net to another touches the latter
 touches : (d : Device) (n m : ℕ) → Joins d n m → Touches d m
 touches d n m (inl j) = inr j.1
 touches d n m (inr j) = inl j.0
 
-soft_settled : (b : Bool) (d : Drive) → d ≡ Soft → cond b Soft d ≡ Soft
-soft_settled true d e = refl
-soft_settled false d e = e
-
-module _ {all_soft : Bool} (k : Comparison) (cut : Cut) (blif : Blif) (facts : List CellFacts) (c : Circuit) (h : IsCheckedByFacts all_soft k cut blif facts c) where
+module _ (k : Comparison) (cut : Cut) (blif : Blif) (facts : List CellFacts) (c : Circuit) (h : IsCheckedByFacts k cut blif facts c) where
   abbrev now : ℕ
   now = (last k cut blif facts c h).0
 
@@ -169,29 +163,5 @@ module _ {all_soft : Bool} (k : Comparison) (cut : Cut) (blif : Blif) (facts : L
     meets = λ j out e. meets j out e;
   }
 
-pub checked_outputs_are_allowed : {all_soft : Bool} → CheckedOutputsAreAllowed all_soft
+pub checked_outputs_are_allowed : CheckedOutputsAreAllowed
 checked_outputs_are_allowed k cut blif facts c h = allowed k cut blif facts c h
-
--- where facts tell no drives
-module _ (k : Comparison) (cut : Cut) (blif : Blif) (facts : List CellFacts) (c : Circuit) (h : IsCheckedSoftly k cut blif facts c) where
-  soft : (j : ℕ) (out : OutputPin) → At (output_pins c) j out → out.pin.drive ≡ Soft
-  soft j out e =
-      let n = now k cut blif facts c h in
-      let o = output_of k cut blif facts c h j out e in
-      let from = among_flat_map (outputs_of_place cut.top blif facts) (whole_places (before cut n)) o.output (j, o.place) in
-      let meets_gates = meets_gates_only (devices k cut blif facts c h) (outputs k cut blif facts c h) o.output in
-      ap (λ (x : WholePin). x.drive) (sym o.pin) ∙ soft_settled meets_gates o.output.pin.drive (output_soft facts h.choice.soft cut.top blif from.0 o.output from.2)
-
-  at_gates_alone : (j : ℕ) (out : OutputPin) → At (output_pins c) j out → IsAtGates c j out
-  at_gates_alone j out e = subst (MeetsByDrive c j out) (soft j out e) ((allowed k cut blif facts c h).meets j out e)
-
-  pub free : HasFreeOutputs c
-  free = record {
-    soft = soft;
-    plain = (allowed k cut blif facts c h).plain;
-    channels = λ j out d n e on joins. (at_gates_alone j out e).channels d n on joins;
-    one = λ j l out other e f same. (at_gates_alone j out e).alone l other f same;
-  }
-
-pub checked_outputs_are_free : CheckedOutputsAreFree
-checked_outputs_are_free k cut blif facts c h = free k cut blif facts c h

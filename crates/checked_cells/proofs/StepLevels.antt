@@ -10,7 +10,6 @@ use Rattle.replaced_cells.proofs.SolvedAlike.{hidden_net}
 use Rattle.replaced_cells.specs.Levels.{HasLevelAt}
 use Rattle.replaced_cells.specs.OneMoreWhole.{IsOneMoreWhole}
 use Rattle.replaced_instances.proofs.ChosenSteps.{exposure}
-use Rattle.replaced_instances.proofs.Exposures.{chosen_step}
 use Rattle.replaced_instances.proofs.PinOutputs.{output_pin, pin_output, settled}
 use Rattle.replaced_instances.proofs.StepHides.{remaining_port}
 use Rattle.replaced_instances.proofs.StepOutputs.{outputs_behind}
@@ -65,13 +64,13 @@ module _ (devices : List Device) (outputs : List OutputAt) (o : OutputAt) where
 
 -- ---- one step
 
-module _ {all_soft : Bool} (k : Comparison) (cut : Cut) (blif : Blif) (facts : List CellFacts) (c : Circuit) (h : IsCheckedByFacts all_soft k cut blif facts c)
+module _ (k : Comparison) (cut : Cut) (blif : Blif) (facts : List CellFacts) (c : Circuit) (h : IsCheckedByFacts k cut blif facts c)
     (i : ℕ) (d e : Circuit) (low : suc i < length (all_places cut.top)) (chosen : cut.choice i ≡ true) (before_it : IsCircuitWith (before cut i) blif facts d)
     (after : IsCircuitWith (before cut (suc i)) blif facts e) where
   abbrev t : Top
   t = cut.top
 
-  abbrev pub step : (p : NumberedPlace) × (m : ℕ) × (depth : ℕ) × (front : List Place) × (back : List Place) × IsStepOf all_soft k cut blif facts i p m depth front back d e
+  abbrev pub step : (p : NumberedPlace) × (m : ℕ) × (depth : ℕ) × (front : List Place) × (back : List Place) × IsStepOf k cut blif facts i p m depth front back d e
   step = step_at k cut blif facts c h i d e low chosen before_it after
 
   abbrev q : Comparison
@@ -182,7 +181,7 @@ module _ {all_soft : Bool} (k : Comparison) (cut : Cut) (blif : Blif) (facts : L
       let stays = subst (λ (n : ℕ). is_outside_at t step.2 p.at n ≡ true) inside.1 (first.hides.ports port on) in
       let own = plain_output cut blif facts i p m is.chosen inside.0 (remaining_port cut blif facts i p m is.chosen step.2 step.3 step.4 is.split inside.0 inside.2 stays) inside.2 in
       let shut = subst (λ (n : ℕ). exposed_at cut blif facts i p q n ≡ false) (sym own.4) inside.3 in
-      let any = chosen_step cut blif facts i p m is.chosen in (
+      let any = is.chosen in (
         own.1,
         (own.1.output, own.3),
         own.5 ∙ sym inside.1,

@@ -15,7 +15,7 @@ use Rattle.checked_chain.proofs.EndLaws.{chain_begins_flat, chain_ends_checked}
 use Rattle.checked_chain.proofs.StepLaws.{none_more_is_same}
 use Rattle.checked_chain.proofs.ThereLaws.{chain_is_there}
 use Rattle.replaced_instances.proofs.ChosenSteps.{told_drive}
-use Rattle.replaced_instances.proofs.Exposures.{chosen_step, no_other_at}
+use Rattle.replaced_instances.proofs.Exposures.{no_other_at}
 use Rattle.replaced_instances.proofs.StepInstances.{zip_at_right}
 use Rattle.replaced_instances.proofs.StepPlaced.{other_there}
 use Rattle.replaced_instances.proofs.StepPorts.{output_drive, port_of_output}
@@ -45,7 +45,7 @@ use Rattle.vrt_model.specs.declared.whole.CellFacts.{CellFacts}
 use Rattle.vrt_model.specs.declared.whole.Drive.{Drive}
 use Rattle.vrt_model.specs.declared.whole.Drive.TheVariants.{Soft, Level}
 
-module _ {all_soft : Bool} (k : Comparison) (cut : Cut) (blif : Blif) (facts : List CellFacts) (c : Circuit) (h : IsCheckedByFacts all_soft k cut blif facts c) (equal : IsEqual k) where
+module _ (k : Comparison) (cut : Cut) (blif : Blif) (facts : List CellFacts) (c : Circuit) (h : IsCheckedByFacts k cut blif facts c) (equal : IsEqual k) where
   abbrev t : Top
   t = cut.top
 
@@ -128,7 +128,7 @@ module _ {all_soft : Bool} (k : Comparison) (cut : Cut) (blif : Blif) (facts : L
                 | inl old ↦ from_output i (omega (arith, low)) o old net (was_alone k cut blif facts c h i first.0 next.0 low chosen first.1 next.1 o old alone) is
                 | inr new ↦
                     let own = port_of_output cut blif facts i s.0 s.1 chosen_is new.0 o new.1 in
-                    let any = chosen_step cut blif facts i s.0 s.1 chosen_is in
+                    let any = chosen_is in
                     let is_told = told_drive cut blif facts i s.0 s.1 any new.0 own.0 level own.1 (sym (output_drive cut blif facts i s.0 s.1 chosen_is new.0 o new.1) ∙ is) in
                     down i first.0 (omega (arith, low)) first.1
                     (λ x on_x net_x alone_x.
@@ -156,7 +156,7 @@ module _ {all_soft : Bool} (k : Comparison) (cut : Cut) (blif : Blif) (facts : L
 
 -- ---- the laws
 
-pub told_drives_are_true : {all_soft : Bool} → ToldDrivesAreTrue all_soft
+pub told_drives_are_true : ToldDrivesAreTrue
 told_drives_are_true k cut blif facts c port drive h equal on is = by_drive drive is
   where
     by_drive : (d : Drive) → IsDriveOf k (with_circuit k c) (all_outputs cut blif facts) port d → IsTrueDrive k port d
@@ -187,7 +187,7 @@ module _ (design : Design) (blif : Blif) (rules : Rules) (cell m : ℕ) (below :
           let over = told.drives (told.equal.0 is) in
           let from = zip_at_right (IsDriveOf k (with_circuit k over.1) (all_outputs over.0 blif below)) (output_ports k) f.drives j drive over.4 at in
           told_drives_are_true k over.0 blif below over.1 port drive
-          (checked_cells_are_by_facts {all_soft = false} design blif rules cell m below over.0 over.1 read supported facts_are tt over.2 over.3) (equal (told.equal.0 is)) (j, on)
+          (checked_cells_are_by_facts design blif rules cell m below over.0 over.1 read supported facts_are over.2 over.3) (equal (told.equal.0 is)) (j, on)
           (subst (λ (x : CellPort). IsDriveOf k (with_circuit k over.1) (all_outputs over.0 blif below) x drive) (one_at (output_ports k) j from.0 port from.1 on) from.2)
 
 pub told_facts_are_true : ToldFactsAreTrue

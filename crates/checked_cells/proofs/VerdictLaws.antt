@@ -1,5 +1,5 @@
 -- What is found in the phases of a checked circuit is the verdict of its cell.
-use Rattle.std.proofs.Common.{ℕ, Bool, List, [], refl, subst, arith}
+use Rattle.std.proofs.Common.{ℕ, List, [], refl, subst, arith}
 use Rattle.checked_cells.proofs.CircuitLaws.{chain}
 use Rattle.checked_cells.specs.Verdicts.{CheckedVariablesAreSame, FlatVerdictsHold, FoundVerdictsHold, IsFoundIn}
 use Rattle.checked_chain.proofs.SettingLaws.{settings_are_same, variables_are_same}
@@ -18,13 +18,13 @@ use Rattle.vrt_model.specs.declared.verdict.Verdict.{Verdict}
 use Rattle.vrt_model.specs.declared.verdict.Verdict.TheVariants.{Equal, Skipped, Fault, Vacuous, Budget, Unsupported}
 use Rattle.vrt_model.specs.declared.whole.CellFacts.{CellFacts}
 
-pub checked_variables_are_same : {all_soft : Bool} → CheckedVariablesAreSame all_soft
+pub checked_variables_are_same : CheckedVariablesAreSame
 checked_variables_are_same k cut blif facts c phase h = (
   (settings_are_same k blif facts cut c (chain k cut blif facts c h) phase []).0,
   variables_are_same k blif facts cut c (chain k cut blif facts c h) phase,
 )
 
-module _ {all_soft : Bool} (k : Comparison) (cut : Cut) (blif : Blif) (facts : List CellFacts) (c : Circuit) (budget : ℕ) (h : IsCheckedByFacts all_soft k cut blif facts c) where
+module _ (k : Comparison) (cut : Cut) (blif : Blif) (facts : List CellFacts) (c : Circuit) (budget : ℕ) (h : IsCheckedByFacts k cut blif facts c) where
   by_verdict : (verdict : Verdict) → IsFoundIn k blif c budget verdict → HasCheckedVerdict k blif facts budget verdict
   by_verdict (Budget nodes phase) (lt, given, may, equal) = (
     lt,
@@ -38,10 +38,10 @@ module _ {all_soft : Bool} (k : Comparison) (cut : Cut) (blif : Blif) (facts : L
   by_verdict Skipped is = absurd is
   by_verdict (Unsupported why) is = absurd is
 
-pub found_verdicts_hold : {all_soft : Bool} → FoundVerdictsHold all_soft
+pub found_verdicts_hold : FoundVerdictsHold
 found_verdicts_hold k cut blif facts c budget verdict h is = by_verdict k cut blif facts c budget h verdict is
 
-pub flat_verdicts_hold : {all_soft : Bool} → FlatVerdictsHold all_soft
+pub flat_verdicts_hold : FlatVerdictsHold
 flat_verdicts_hold k cut blif facts budget verdict h is =
     checked_verdicts_hold k cut blif facts k.circuit budget verdict h
     (subst (λ (x : Comparison). HasVerdict x blif budget verdict) (is_itself k cut blif facts k.circuit h k.circuit refl) is)

@@ -62,17 +62,17 @@ arc_by_cover flat none given other clock hand from to (inr (inr (inr a))) =
     let there = subst (λ (ls : List FlatLatch). Among (numbered_from 0 ls) a.0) none a.1 in absurd (none-some a.0 there.1)
 
 -- a whole instance of a checked circuit, the chosen instance that it is, and the model with which its cell pairs
-pub record IsChosenWhole (all_soft : Bool) (cut : Cut) (blif : Blif) (facts : List CellFacts) (n : ℕ) (w : Whole) : Type 0 where
+pub record IsChosenWhole (cut : Cut) (blif : Blif) (facts : List CellFacts) (n : ℕ) (w : Whole) : Type 0 where
   pub number : ℕ
   pub place : NumberedPlace
   pub model : ℕ
   pub listed : Among (whole_places (before cut n)) place
   pub chosen : IsChosenAt cut number place
-  pub step : IsStep all_soft cut blif facts number place model
+  pub step : IsStep cut blif facts number place model
   pub supported : IsSupported cut.top.design blif cut.top.rules place.at.cell model
   pub is : IsWholeAt (before cut n) blif facts place w
 
-module _ {all_soft : Bool} (k : Comparison) (cut : Cut) (blif : Blif) (facts : List CellFacts) (c : Circuit) (h : IsCheckedByFacts all_soft k cut blif facts c) where
+module _ (k : Comparison) (cut : Cut) (blif : Blif) (facts : List CellFacts) (c : Circuit) (h : IsCheckedByFacts k cut blif facts c) where
   -- the checked circuit as the last of its chain
   abbrev pub last : (n : ℕ) × (n < length (all_places cut.top)) × IsCircuitWith (before cut n) blif facts c
   last = at_last k cut blif facts c h
@@ -80,7 +80,7 @@ module _ {all_soft : Bool} (k : Comparison) (cut : Cut) (blif : Blif) (facts : L
   pub ranges : HasRanges c
   ranges = circuits_have_ranges cut blif facts last.0 c h.choice h.formed (ends_before cut last.0 (chosen_ends_are_shown cut blif facts h.choice)) last.2
 
-  pub chosen_whole : (w : Whole) → Among c.wholes w → IsChosenWhole all_soft cut blif facts last.0 w
+  pub chosen_whole : (w : Whole) → Among c.wholes w → IsChosenWhole cut blif facts last.0 w
   chosen_whole w on =
       let from = zip_right (IsWholeAt (before cut last.0) blif facts) (whole_places (before cut last.0)) c.wholes w last.2.wholes on in
       let is = whole_chosen cut last.0 from.0 from.1 in
@@ -96,7 +96,7 @@ module _ {all_soft : Bool} (k : Comparison) (cut : Cut) (blif : Blif) (facts : L
   -- ---- the model of a whole instance
 
   module _ (w : Whole) (on : Among c.wholes w) where
-    one : IsChosenWhole all_soft cut blif facts last.0 w
+    one : IsChosenWhole cut blif facts last.0 w
     one = chosen_whole w on
 
     abbrev q : Comparison
@@ -150,24 +150,24 @@ module _ {all_soft : Bool} (k : Comparison) (cut : Cut) (blif : Blif) (facts : L
           ap net_id (sym t.3 ∙ ap at net ∙ u.3));
     }
 
-pub checked_circuits_are_wired : {all_soft : Bool} → CheckedCircuitsAreWired all_soft
+pub checked_circuits_are_wired : CheckedCircuitsAreWired
 checked_circuits_are_wired k cut blif facts c h = record {
   ranges = ranges k cut blif facts c h;
   outputs = λ w pin on there. (determined k cut blif facts c h 0 (some_phase k cut blif facts c h) w on).plain pin there;
 }
 
-pub checked_wholes_are_determined : {all_soft : Bool} → CheckedWholesAreDetermined all_soft
+pub checked_wholes_are_determined : CheckedWholesAreDetermined
 checked_wholes_are_determined k cut blif facts c phase h lt =
     subst (λ (u : Top). AreDetermined c (phase_at u.rules phase) (is_observed (with_circuit k c) phase)) h.top
     (determined k cut blif facts c h phase (subst (λ (u : Top). phase < length u.rules.phases) (sym h.top) lt))
 
-pub checked_wholes_are_logic : {all_soft : Bool} → CheckedWholesAreLogic all_soft
+pub checked_wholes_are_logic : CheckedWholesAreLogic
 checked_wholes_are_logic k cut blif facts c w h on = logic_whole k cut blif facts c h w on
 
-pub checked_models_are_acyclic : {all_soft : Bool} → CheckedModelsAreAcyclic all_soft
+pub checked_models_are_acyclic : CheckedModelsAreAcyclic
 checked_models_are_acyclic k cut blif facts c w h on = acyclic_whole k cut blif facts c h w on
 
-pub checked_circuits_are_acyclic : {all_soft : Bool} → CheckedCircuitsAreAcyclic all_soft
+pub checked_circuits_are_acyclic : CheckedCircuitsAreAcyclic
 checked_circuits_are_acyclic k cut blif facts c phase h lt =
     let there = last k cut blif facts c h in
     let low = subst (λ (u : Top). phase < length u.rules.phases) (sym h.top) lt in

@@ -1,5 +1,5 @@
 -- A checked circuit and the flat one: what they share.
-use Rattle.std.specs.Prelude.{◌≡◌, Bool, List, length}
+use Rattle.std.specs.Prelude.{◌≡◌, List, length}
 use Rattle.substitution_laws.specs.Agreement.{IsCheckedByFacts}
 use Rattle.vrt_model.specs.Circuits.{IsCircuit}
 use Rattle.vrt_model.specs.Comparison.{Comparison}
@@ -19,11 +19,11 @@ pub record SharesCircuit (k : Comparison) (c : Circuit) : Type 0 where
   pub instances : (i : FlatInstance) → Among c.instances i → Among k.circuit.instances i
 
 -- The law: a checked circuit shares these with the flat one.
-abbrev pub CheckedCircuitsShare : Bool → Type 0
-CheckedCircuitsShare all_soft =
-    (k : Comparison) (cut : Cut) (blif : Blif) (facts : List CellFacts) (c : Circuit) → IsCheckedByFacts all_soft k cut blif facts c → SharesCircuit k c
+abbrev pub CheckedCircuitsShare : Type 0
+CheckedCircuitsShare =
+    (k : Comparison) (cut : Cut) (blif : Blif) (facts : List CellFacts) (c : Circuit) → IsCheckedByFacts k cut blif facts c → SharesCircuit k c
 
 -- The law: it is well formed.
-abbrev pub CheckedCircuitsAreFormed : Bool → Type 0
-CheckedCircuitsAreFormed all_soft =
-    (k : Comparison) (cut : Cut) (blif : Blif) (facts : List CellFacts) (c : Circuit) → IsCheckedByFacts all_soft k cut blif facts c → IsCircuit c
+abbrev pub CheckedCircuitsAreFormed : Type 0
+CheckedCircuitsAreFormed =
+    (k : Comparison) (cut : Cut) (blif : Blif) (facts : List CellFacts) (c : Circuit) → IsCheckedByFacts k cut blif facts c → IsCircuit c

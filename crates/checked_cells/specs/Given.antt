@@ -3,7 +3,6 @@ use Rattle.std.specs.Prelude.{◌≡◌, ℕ, ◌<◌, ◌&&◌, Bool, false, Li
 use Rattle.std.specs.List.{list_any}
 use Rattle.formed_cells.specs.Formed.{AreRead}
 use Rattle.substitution_laws.specs.Agreement.{IsCheckedByFacts}
-use Rattle.substitution_laws.specs.Chosen.{AreSoft, AreSoftIf}
 use Rattle.vrt_model.specs.Checked.{IsChecked, has_fact, top_of}
 use Rattle.vrt_model.specs.Comparison.{Comparison}
 use Rattle.vrt_model.specs.Cut.{Cut}
@@ -31,23 +30,17 @@ pub record IsReadCell (design : Design) (blif : Blif) (rules : Rules) (cell : �
 pub record AreTrueFacts (design : Design) (blif : Blif) (rules : Rules) (facts : List CellFacts) : Type 0 where
   pub told : (cell : ℕ) (f : CellFacts) → At facts cell f → IsTrueOf design blif rules cell f
 
--- and of no output is told how strongly it drives
-pub record ArePlainFacts (design : Design) (blif : Blif) (rules : Rules) (facts : List CellFacts) : Type 0 where
-  pub told : (cell : ℕ) (f : CellFacts) → At facts cell f → IsTrueOf design blif rules cell f
-  pub soft : AreSoft facts
-
 -- the circuit is the checked one of a comparison, where these facts are known of the cells below
 abbrev pub IsCheckedOf : Comparison → Blif → List CellFacts → Circuit → Type 0
 IsCheckedOf k blif facts c = (cut : Cut) × (cut.top ≡ top_of k) × IsChecked cut blif facts c
 
--- The law: it is made of a sound netlist, and of instances that are chosen by true facts; where all drives that these tell are soft, each
--- output of such an instance meets gates alone.
-abbrev pub CheckedCellsAreByFacts : Bool → Type 0
-CheckedCellsAreByFacts all_soft =
+-- The law: it is made of a sound netlist, and of instances that are chosen by true facts.
+abbrev pub CheckedCellsAreByFacts : Type 0
+CheckedCellsAreByFacts =
     (design : Design) (blif : Blif) (rules : Rules) (cell m : ℕ) (facts : List CellFacts) (cut : Cut) (c : Circuit)
-    → IsReadCell design blif rules cell → IsSupported design blif rules cell m → AreTrueFacts design blif rules facts → AreSoftIf all_soft facts
+    → IsReadCell design blif rules cell → IsSupported design blif rules cell m → AreTrueFacts design blif rules facts
     → cut.top ≡ top_of (comparison_of design blif rules cell m) → IsChecked cut blif facts c
-    → IsCheckedByFacts all_soft (comparison_of design blif rules cell m) cut blif facts c
+    → IsCheckedByFacts (comparison_of design blif rules cell m) cut blif facts c
 
 -- an instance is of a cell that is known as equal and stateless
 abbrev pub is_candidate : List CellFacts → FlatInstance → Bool

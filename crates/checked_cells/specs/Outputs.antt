@@ -2,7 +2,7 @@
 use Rattle.std.specs.Prelude.{◌≡◌, ℕ, ◌<◌, ◌≤◌, Bool, List, Option, length}
 use Rattle.channel_parts.specs.OneSolution.{AreDetermined}
 use Rattle.known_nets.specs.Wired.{IsWired}
-use Rattle.substitution_laws.specs.Agreement.{IsCheckedByFacts, IsCheckedSoftly}
+use Rattle.substitution_laws.specs.Agreement.{IsCheckedByFacts}
 use Rattle.vrt_model.specs.Checked.{with_circuit}
 use Rattle.vrt_model.specs.Comparison.{Comparison, is_observed, phase_at}
 use Rattle.vrt_model.specs.Cut.{Cut}
@@ -20,13 +20,12 @@ use Rattle.vrt_model.specs.declared.whole.CellFacts.{CellFacts}
 use Rattle.vrt_model.specs.declared.whole.Drive.{Drive}
 use Rattle.vrt_model.specs.declared.whole.Drive.TheVariants.{Soft, Level}
 use Rattle.vrt_model.specs.declared.whole.Whole.{Whole}
-use Rattle.whole_steps.specs.FreeOutputs.{HasFreeOutputs}
 use Rattle.whole_steps.specs.Logic.{IsLogicWhole}
 
 -- The law: numbers are in range, and outputs are at plain nets.
-abbrev pub CheckedCircuitsAreWired : Bool → Type 0
-CheckedCircuitsAreWired all_soft =
-    (k : Comparison) (cut : Cut) (blif : Blif) (facts : List CellFacts) (c : Circuit) → IsCheckedByFacts all_soft k cut blif facts c → IsWired c
+abbrev pub CheckedCircuitsAreWired : Type 0
+CheckedCircuitsAreWired =
+    (k : Comparison) (cut : Cut) (blif : Blif) (facts : List CellFacts) (c : Circuit) → IsCheckedByFacts k cut blif facts c → IsWired c
 
 -- no channel meets the net of an output, and it is the only one there
 pub record IsAtGates (c : Circuit) (place : ℕ) (out : OutputPin) : Type 0 where
@@ -51,35 +50,30 @@ pub record HasAllowedOutputs (c : Circuit) : Type 0 where
   pub meets : (place : ℕ) (out : OutputPin) → At (output_pins c) place out → MeetsByDrive c place out out.pin.drive
 
 -- The law: the outputs are such.
-abbrev pub CheckedOutputsAreAllowed : Bool → Type 0
-CheckedOutputsAreAllowed all_soft =
-    (k : Comparison) (cut : Cut) (blif : Blif) (facts : List CellFacts) (c : Circuit) → IsCheckedByFacts all_soft k cut blif facts c → HasAllowedOutputs c
-
--- The law: where facts tell no drives, each output is soft, and alone at a net that no channel meets.
-abbrev pub CheckedOutputsAreFree : Type 0
-CheckedOutputsAreFree =
-    (k : Comparison) (cut : Cut) (blif : Blif) (facts : List CellFacts) (c : Circuit) → IsCheckedSoftly k cut blif facts c → HasFreeOutputs c
+abbrev pub CheckedOutputsAreAllowed : Type 0
+CheckedOutputsAreAllowed =
+    (k : Comparison) (cut : Cut) (blif : Blif) (facts : List CellFacts) (c : Circuit) → IsCheckedByFacts k cut blif facts c → HasAllowedOutputs c
 
 -- The law: in each phase each whole instance is determined by the inputs that are linked to its outputs.
-abbrev pub CheckedWholesAreDetermined : Bool → Type 0
-CheckedWholesAreDetermined all_soft =
+abbrev pub CheckedWholesAreDetermined : Type 0
+CheckedWholesAreDetermined =
     (k : Comparison) (cut : Cut) (blif : Blif) (facts : List CellFacts) (c : Circuit) (phase : ℕ)
-    → IsCheckedByFacts all_soft k cut blif facts c → phase < length k.rules.phases → AreDetermined c (phase_at k.rules phase) (is_observed (with_circuit k c) phase)
+    → IsCheckedByFacts k cut blif facts c → phase < length k.rules.phases → AreDetermined c (phase_at k.rules phase) (is_observed (with_circuit k c) phase)
 
 -- The law: its model has no latch and says of which clock or net each input has the bit.
-abbrev pub CheckedWholesAreLogic : Bool → Type 0
-CheckedWholesAreLogic all_soft =
+abbrev pub CheckedWholesAreLogic : Type 0
+CheckedWholesAreLogic =
     (k : Comparison) (cut : Cut) (blif : Blif) (facts : List CellFacts) (c : Circuit) (w : Whole)
-    → IsCheckedByFacts all_soft k cut blif facts c → Among c.wholes w → IsLogicWhole w
+    → IsCheckedByFacts k cut blif facts c → Among c.wholes w → IsLogicWhole w
 
 -- The law: the arcs have no cycle in any phase.
-abbrev pub CheckedCircuitsAreAcyclic : Bool → Type 0
-CheckedCircuitsAreAcyclic all_soft =
+abbrev pub CheckedCircuitsAreAcyclic : Type 0
+CheckedCircuitsAreAcyclic =
     (k : Comparison) (cut : Cut) (blif : Blif) (facts : List CellFacts) (c : Circuit) (phase : ℕ)
-    → IsCheckedByFacts all_soft k cut blif facts c → phase < length k.rules.phases → IsAcyclic (HasArc c (phase_at k.rules phase))
+    → IsCheckedByFacts k cut blif facts c → phase < length k.rules.phases → IsAcyclic (HasArc c (phase_at k.rules phase))
 
 -- The law: the model of a whole instance has no cycle, whatever is known of its signals and of its default clock.
-abbrev pub CheckedModelsAreAcyclic : Bool → Type 0
-CheckedModelsAreAcyclic all_soft =
+abbrev pub CheckedModelsAreAcyclic : Type 0
+CheckedModelsAreAcyclic =
     (k : Comparison) (cut : Cut) (blif : Blif) (facts : List CellFacts) (c : Circuit) (w : Whole)
-    → IsCheckedByFacts all_soft k cut blif facts c → Among c.wholes w → (given : ℕ → Option Bool) (clock : Option Bool) → IsAcyclic (HasModelArc w.model given clock)
+    → IsCheckedByFacts k cut blif facts c → Among c.wholes w → (given : ℕ → Option Bool) (clock : Option Bool) → IsAcyclic (HasModelArc w.model given clock)

@@ -1,5 +1,5 @@
 -- What is told of a cell after its verdict is true of its flat circuit.
-use Rattle.std.specs.Prelude.{◌≡◌, ℕ, Bool, List}
+use Rattle.std.specs.Prelude.{◌≡◌, ℕ, List}
 use Rattle.checked_cells.specs.Given.{AreTrueFacts, IsReadCell}
 use Rattle.substitution_laws.specs.Agreement.{IsCheckedByFacts}
 use Rattle.vrt_model.specs.Checked.{with_circuit}
@@ -20,10 +20,10 @@ use Rattle.vrt_model.specs.declared.whole.CellFacts.{CellFacts}
 use Rattle.vrt_model.specs.declared.whole.Drive.{Drive}
 
 -- The law: the drive of an output port of an equal cell, as it is told over the checked circuit, is true of the flat one.
-abbrev pub ToldDrivesAreTrue : Bool → Type 0
-ToldDrivesAreTrue all_soft =
+abbrev pub ToldDrivesAreTrue : Type 0
+ToldDrivesAreTrue =
     (k : Comparison) (cut : Cut) (blif : Blif) (facts : List CellFacts) (c : Circuit) (port : CellPort) (drive : Drive)
-    → IsCheckedByFacts all_soft k cut blif facts c → IsEqual k → Among (output_ports k) port
+    → IsCheckedByFacts k cut blif facts c → IsEqual k → Among (output_ports k) port
     → IsDriveOf k (with_circuit k c) (all_outputs cut blif facts) port drive → IsTrueDrive k port drive
 
 -- The law: so what is told of a supported cell after its verdict is true, where what was known of the cells below is, and the cell is equal

@@ -1,5 +1,5 @@
 -- What is found in the phases of a checked circuit is said of the cell.
-use Rattle.std.specs.Prelude.{◌≡◌, ℕ, ◌<◌, Bool, List, length}
+use Rattle.std.specs.Prelude.{◌≡◌, ℕ, ◌<◌, List, length}
 use Rattle.substitution_laws.specs.Agreement.{IsCheckedByFacts}
 use Rattle.vrt_model.specs.Checked.{with_circuit}
 use Rattle.vrt_model.specs.CheckedVerdicts.{HasCheckedVerdict}
@@ -14,10 +14,10 @@ use Rattle.vrt_model.specs.declared.verdict.Verdict.TheVariants.{Equal, Skipped,
 use Rattle.vrt_model.specs.declared.whole.CellFacts.{CellFacts}
 
 -- The law: the variables of a phase are those of the flat circuit, with the same names.
-abbrev pub CheckedVariablesAreSame : Bool → Type 0
-CheckedVariablesAreSame all_soft =
+abbrev pub CheckedVariablesAreSame : Type 0
+CheckedVariablesAreSame =
     (k : Comparison) (cut : Cut) (blif : Blif) (facts : List CellFacts) (c : Circuit) (phase : ℕ)
-    → IsCheckedByFacts all_soft k cut blif facts c
+    → IsCheckedByFacts k cut blif facts c
     → (sources_of (with_circuit k c) phase ≡ sources_of k phase) × (variable_names (with_circuit k c) phase ≡ variable_names k phase)
 
 -- a verdict as it is found phase by phase in the circuit; the budget may stand in place of the others where it may be passed in the flat one
@@ -31,13 +31,13 @@ IsFoundIn k blif c budget Skipped = HasVerdict (with_circuit k c) blif budget Sk
 IsFoundIn k blif c budget (Unsupported why) = HasVerdict (with_circuit k c) blif budget (Unsupported why)
 
 -- The law: what is found in the checked circuit is the cell's verdict.
-abbrev pub FoundVerdictsHold : Bool → Type 0
-FoundVerdictsHold all_soft =
+abbrev pub FoundVerdictsHold : Type 0
+FoundVerdictsHold =
     (k : Comparison) (cut : Cut) (blif : Blif) (facts : List CellFacts) (c : Circuit) (budget : ℕ) (verdict : Verdict)
-    → IsCheckedByFacts all_soft k cut blif facts c → IsFoundIn k blif c budget verdict → HasCheckedVerdict k blif facts budget verdict
+    → IsCheckedByFacts k cut blif facts c → IsFoundIn k blif c budget verdict → HasCheckedVerdict k blif facts budget verdict
 
 -- The law: so is the verdict of the flat circuit, where no instance is left whole.
-abbrev pub FlatVerdictsHold : Bool → Type 0
-FlatVerdictsHold all_soft =
+abbrev pub FlatVerdictsHold : Type 0
+FlatVerdictsHold =
     (k : Comparison) (cut : Cut) (blif : Blif) (facts : List CellFacts) (budget : ℕ) (verdict : Verdict)
-    → IsCheckedByFacts all_soft k cut blif facts k.circuit → HasVerdict k blif budget verdict → HasCheckedVerdict k blif facts budget verdict
+    → IsCheckedByFacts k cut blif facts k.circuit → HasVerdict k blif budget verdict → HasCheckedVerdict k blif facts budget verdict

@@ -1,12 +1,11 @@
 //! What a checked circuit is made of.
 
-ghost use Rattle.std.specs.Prelude.{Bool};
 ghost use Rattle.checked_cells.specs.Given.{CheckedCellsAreByFacts, NothingIsWhole};
 
 /// The checked circuit of a supported cell is made of a sound netlist, and of instances that are chosen by what is known of the cells
-/// below, where this is true; each output of these meets gates alone where of no output is known how strongly it drives.
+/// below, where this is true.
 pub fn checked_cells_are_by_facts()
-    ensures { (all_soft : Bool) → CheckedCellsAreByFacts all_soft }
+    ensures { CheckedCellsAreByFacts }
 {}
 
 /// Where no instance is of a cell that is known as equal and stateless, none is left whole, and the checked circuit is the flat one.

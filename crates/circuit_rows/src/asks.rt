@@ -1,7 +1,6 @@
 //! Known nets, parts and signals.
 
 use crate::classes::tell_classes;
-use crate::replays::tell_replay;
 use crate::stop::Stop;
 use crate::words::{Ask, behind, bit, number};
 use anyhow::Result;
@@ -19,7 +18,6 @@ pub(crate) fn ask(rt: HostRuntime, circuit: &Circuit, what: Ask, numbers: &[u32]
         Ask::Order => tell_order(rt, circuit, numbers),
         Ask::Signals => tell_signals(rt, circuit, numbers),
         Ask::Classes => tell_classes(rt, circuit, numbers),
-        Ask::Replay => tell_replay(rt, circuit, numbers),
     }
 }
 
@@ -129,7 +127,7 @@ fn tell_parts(rt: HostRuntime, circuit: &Circuit, numbers: &[u32]) -> Result<()>
 }
 
 /// The first nets of a cycle.
-pub(crate) fn tell_cycle(rt: HostRuntime, nets: &[Net]) -> Result<()> {
+fn tell_cycle(rt: HostRuntime, nets: &[Net]) -> Result<()> {
     let (count, first) = (nets.len(), nets.get(..3).unwrap_or(nets));
     println!(rt; "cycle: {count} nets, first {first:?}")?;
     Ok(())

@@ -13,8 +13,11 @@ use plain_paths::is_flat;
 use std::alloc::Global;
 use vrt_model::{Circuit, Dev, Net, NetKind, Seq, Var};
 
-/// The most nets and devices of a circuit, and variables of its store.
-const MOST: usize = 1000;
+/// The most nets and devices of a circuit.
+const MOST: usize = 10_000;
+
+/// The most variables of a store.
+const VARS: usize = 1000;
 
 /// What is told of a net of the part.
 #[derive(Clone, Copy)]
@@ -74,7 +77,7 @@ fn whole_part(alloc: Global, circuit: &Circuit) -> Result<Part, Stop> {
 fn variables(circuit: &Circuit) -> u32 {
     let nets = circuit.nets.as_slice();
     let inputs = nets.iter().filter(|net| net.kind == NetKind::Input).count();
-    inputs.saturating_add(circuit.holds.len()).min(MOST) as u32
+    inputs.saturating_add(circuit.holds.len()).min(VARS) as u32
 }
 
 /// Whether a span is live in a store.
@@ -123,7 +126,7 @@ impl Board {
         let nets = circuit.nets.len().min(MOST) as u32;
         let words = net_words(circuit.source_level()) * part.nets.len().min(MOST) as u32;
         let budget = budget.clamp(2, 64_000_000);
-        let vars = variables(circuit).min(MOST as u32);
+        let vars = variables(circuit).min(VARS as u32);
         let mut store = Store::with_budget(alloc, budget, 2 * nets + words, vars)?;
         let gates = take(&mut store, nets)?;
         let roots = take(&mut store, nets)?;
@@ -160,6 +163,11 @@ impl Board {
             var = var.saturating_add(1);
         }
         Ok(())
+    }
+
+    /// How many nets and devices the part has.
+    pub(crate) fn size(&self) -> (usize, usize) {
+        (self.part.nets.len(), self.part.devices.len())
     }
 
     /// Solves the part.

@@ -2,6 +2,7 @@
 
 use crate::asks::ask;
 use crate::drawing::draw;
+use crate::measures::measure;
 use crate::paths::{Solved, follow_path};
 use crate::small::tell_small;
 use crate::stop::Stop;
@@ -63,6 +64,7 @@ impl Desk {
                 what,
                 numbers,
             ),
+            Word::Measure(what) => measure(rt, &self.draft.circuit, what, numbers),
             Word::Small(scale) => tell_small(rt, scale),
         }
     }

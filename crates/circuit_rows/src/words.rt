@@ -50,9 +50,6 @@ pub enum Ask {
     Signals,
     /// `classes BIT ..`: the classes of the parts, where the clock has these bits in the phases.
     Classes,
-    /// `replay CLOCK BIT ..`: what all plain nets show without and with keepers, or a cycle, where the clock, then the holds
-    /// and then the inputs have these bits.
-    Replay,
 }
 
 /// What is asked of the paths of a circuit, whose inputs and holds are variables in their order.
@@ -72,6 +69,15 @@ pub enum Path {
     Ones,
 }
 
+/// What is measured of the part of all plain nets.
+#[derive(Clone, Copy, Debug, PartialEq, Eq)]
+pub enum Measure {
+    /// `nodes BUDGET`: its nets and devices, and the nodes of its store before and after it is solved.
+    Nodes,
+    /// `time BUDGET TIMES`: the same, with the least microseconds that solving took, of so many times in a new store each.
+    Time,
+}
+
 /// The word of a line.
 #[derive(Clone, Copy, Debug, PartialEq, Eq)]
 pub enum Word {
@@ -83,12 +89,14 @@ pub enum Word {
     Ask(Ask),
     /// A line that asks for strengths and values at all valuations at once.
     Path(Path),
+    /// A line that asks how many nodes a part takes, or how long.
+    Measure(Measure),
     /// `small`, or `small_fifteen` with fifteen levels: all circuits of three plain nets with at most three devices.
     Small(Scale),
 }
 
 /// All words.
-const WORDS: [(&str, Word); 29] = [
+const WORDS: [(&str, Word); 30] = [
     ("circuit", Word::Circuit),
     ("plain", Word::Drawing(Drawing::Plain)),
     ("input", Word::Drawing(Drawing::Input)),
@@ -109,13 +117,14 @@ const WORDS: [(&str, Word); 29] = [
     ("order", Word::Ask(Ask::Order)),
     ("signals", Word::Ask(Ask::Signals)),
     ("classes", Word::Ask(Ask::Classes)),
-    ("replay", Word::Ask(Ask::Replay)),
     ("solve", Word::Path(Path::Solve)),
     ("product", Word::Path(Path::Product)),
     ("complement", Word::Path(Path::Complement)),
     ("level", Word::Path(Path::Level)),
     ("zeros", Word::Path(Path::Zeros)),
     ("ones", Word::Path(Path::Ones)),
+    ("nodes", Word::Measure(Measure::Nodes)),
+    ("time", Word::Measure(Measure::Time)),
     ("small", Word::Small(Scale::Eight)),
     ("small_fifteen", Word::Small(Scale::Fifteen)),
 ];

@@ -10,7 +10,7 @@ use Rattle.replaced_instances.proofs.OutputPorts.{port_place}
 use Rattle.replaced_instances.proofs.StepHides.{output_observed}
 use Rattle.replaced_instances.proofs.StepPorts.{no_holds, place_there, told}
 use Rattle.replaced_instances.specs.Exposed.{ExposedDrivesAreTrue, ExposedOutputsAreApart, ExposedOutputsHaveDrives}
-use Rattle.replaced_instances.specs.Steps.{IsChosenStep, compared_at, drive_at, exposed_at}
+use Rattle.replaced_instances.specs.Steps.{IsStep, compared_at, drive_at, exposed_at}
 use Rattle.vrt_model.proofs.Filtered.{among_devices, device_among, filter_among}
 use Rattle.vrt_model.proofs.Lists.{one_at}
 use Rattle.vrt_model.specs.Comparison.{CellPort, Comparison, cell_at, is_observed, output_signal, phase_at, port_nets, ports_of}
@@ -42,7 +42,7 @@ same_port k x y a b same =
     let number : b.0 ≡ a.0 = omega (arith, one, other, same) in
     one_at (ports_of k) a.0 x y a.1 (subst (λ (j : ℕ). At (ports_of k) j y) number b.1)
 
-module _ (cut : Cut) (blif : Blif) (facts : List CellFacts) (i : ℕ) (p : NumberedPlace) (m : ℕ) (step : IsChosenStep cut blif facts i p m) where
+module _ (cut : Cut) (blif : Blif) (facts : List CellFacts) (i : ℕ) (p : NumberedPlace) (m : ℕ) (step : IsStep cut blif facts i p m) where
   abbrev k : Comparison
   k = compared_at cut.top blif p m
 

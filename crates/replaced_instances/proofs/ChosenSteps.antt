@@ -17,7 +17,7 @@ use Rattle.replaced_instances.proofs.StepLeft.{hidden_compared, left_whole}
 use Rattle.replaced_instances.proofs.StepPlaced.{placed, ports, shows}
 use Rattle.replaced_instances.proofs.StepPorts.{may, no_holds, none, output_drive, output_plain, place_there, port_of_output, rising, tied, told}
 use Rattle.replaced_instances.specs.Shown.{ChosenStepHidesItsNets}
-use Rattle.replaced_instances.specs.Steps.{ChosenPortsArePlaced, ChosenStepIsLeftWhole, ChosenStepIsPlaced, IsChosenStep, compared_at, compared_at_step, drive_at, exposed_at, is_output_at, output_place}
+use Rattle.replaced_instances.specs.Steps.{ChosenPortsArePlaced, ChosenStepIsLeftWhole, ChosenStepIsPlaced, IsStep, compared_at, compared_at_step, drive_at, exposed_at, is_output_at, output_place}
 use Rattle.vrt_model.proofs.Filtered.{filter_among}
 use Rattle.vrt_model.proofs.Lists.{one_at}
 use Rattle.vrt_model.proofs.Members.{among_any, any_among}
@@ -38,7 +38,7 @@ use Rattle.vrt_model.specs.declared.whole.CellFacts.{CellFacts}
 use Rattle.vrt_model.specs.declared.whole.Drive.{Drive}
 use Rattle.vrt_model.specs.declared.whole.Drive.TheVariants.{Soft, Level}
 
-module _ (cut : Cut) (blif : Blif) (facts : List CellFacts) (i : ℕ) (p : NumberedPlace) (m : ℕ) (step : IsChosenStep cut blif facts i p m) where
+module _ (cut : Cut) (blif : Blif) (facts : List CellFacts) (i : ℕ) (p : NumberedPlace) (m : ℕ) (step : IsStep cut blif facts i p m) where
   abbrev k : Comparison
   k = compared_at cut.top blif p m
 

@@ -1,13 +1,13 @@
 -- What outputs of whole instances meet, and which of those of an instance that comes to be whole are exposed.
-use Rattle.std.proofs.Common.{◌≡◌, ◌≤◌, ◌&&◌, ◌||◌, ℕ, suc, not, List, Bool, true, false, ap, sym, ◌∙◌, inl, inr}
+use Rattle.std.proofs.Common.{◌≡◌, ◌≤◌, ◌&&◌, ◌||◌, ℕ, suc, not, List, Bool, true, false, ap, inl, inr}
 use Rattle.std.specs.Prelude.{nat_le, ◌==◌}
 use Rattle.std.specs.List.{list_all}
-use Rattle.std.proofs.lemmas.Bool.{and_from, and_parts, cases_Bool, eq-eqb, eqb-true, false_from_ne_true, false≢true, leb-true, or_cases, or_left, or_right}
+use Rattle.std.proofs.lemmas.Bool.{and_from, and_parts, cases_Bool, eq-eqb, eqb-true, false≢true, leb-true, or_cases, or_left, or_right}
 use Rattle.cell_inside.specs.Inside.{Touches}
 use Rattle.checked_chain.proofs.DriveLaws.{nothing_in}
-use Rattle.replaced_instances.specs.Steps.{IsChosenStep, IsStep, IsStepAtGates, compared_at, exposed_at, is_output_at}
+use Rattle.replaced_instances.specs.Steps.{compared_at}
 use Rattle.vrt_model.proofs.Filtered.{among_kept}
-use Rattle.vrt_model.proofs.Members.{any_among, at_all}
+use Rattle.vrt_model.proofs.Members.{at_all}
 use Rattle.vrt_model.specs.Checked.{before}
 use Rattle.vrt_model.specs.CheckedParts.{checked_devices}
 use Rattle.vrt_model.specs.Comparison.{CellPort}
@@ -106,37 +106,6 @@ pub record AreExposed (cut : Cut) (blif : Blif) (facts : List CellFacts) (i : �
   pub others :
       (o : OutputAt) (port : CellPort) → At (outputs_of_place cut.top blif facts p) o.output o → At (output_ports (compared_at cut.top blif p m)) o.output port
       → exposed port.net ≡ false → meets_gates_only (checked_devices (before cut (suc i))) (all_outputs (before cut (suc i)) blif facts) o ≡ true
-
--- each step is a chosen one
-pub chosen_step : {at_gates : Bool} (cut : Cut) (blif : Blif) (facts : List CellFacts) (i : ℕ) (p : NumberedPlace) (m : ℕ) → IsStep at_gates cut blif facts i p m → IsChosenStep cut blif facts i p m
-chosen_step cut blif facts i p m step = record {
-  netlist = step.netlist;
-  told = step.told;
-  tried = step.tried;
-  chosen = step.chosen;
-  place = step.place;
-  paired = step.paired;
-  roles = step.roles;
-  gates = tt;
-}
-
--- where all outputs meet gates alone, none is exposed
-pub none_exposed : (cut : Cut) (blif : Blif) (facts : List CellFacts) (i : ℕ) (p : NumberedPlace) (m : ℕ) (drive : ℕ → ℕ) → IsStepAtGates cut blif facts i p m
-    → AreExposed cut blif facts i p m (λ n. false) drive
-none_exposed cut blif facts i p m drive step = record {
-  ports = λ n e. absurd (false≢true e);
-  outputs = λ o port on at e. absurd (false≢true e);
-  others = λ o port on at e. step.gates o (o.output, on);
-}
-
-pub not_exposed : (cut : Cut) (blif : Blif) (facts : List CellFacts) (i : ℕ) (p : NumberedPlace) (m n : ℕ) → IsStepAtGates cut blif facts i p m
-    → exposed_at cut blif facts i p (compared_at cut.top blif p m) n ≡ false
-not_exposed cut blif facts i p m n step =
-    false_from_ne_true (exposed_at cut blif facts i p (compared_at cut.top blif p m) n) (λ e.
-    let alone : OutputAt → Bool = λ o. meets_gates_only (checked_devices (before cut (suc i))) (all_outputs (before cut (suc i)) blif facts) o in
-    let o = any_among (λ (o : OutputAt). is_output_at (compared_at cut.top blif p m) n o && not (alone o)) (outputs_of_place cut.top blif facts p) e in
-    let more = (and_parts (is_output_at (compared_at cut.top blif p m) n o.0) (not (alone o.0)) o.2).1 in
-    false≢true (sym (ap not (step.gates o.0 o.1)) ∙ more))
 
 -- compared are all nets but those at which plain nets of the cell are that are not exposed
 pub record AreCompared (cell : Circuit) (at : ℕ → ℕ) (exposed compared : ℕ → Bool) : Type 0 where

@@ -2,7 +2,7 @@
 use Rattle.std.proofs.Common.{◌≡◌, ◌+◌, ◌<◌, ◌&&◌, ◌||◌, ◌∷◌, [], ℕ, zero, suc, not, List, Bool, true, false, length, Option, Some, None, refl, ap, sym, ◌∙◌, subst, arith, inl, inr}
 use Rattle.std.specs.Prelude.{drop, filter, is_none, is_some, nat_le, nat_lt, option_map, ◌==◌}
 use Rattle.std.specs.List.{enumerate_from, list_all, list_any}
-use Rattle.std.proofs.lemmas.Bool.{and_from, cases_lt, eq-eqb, false≢true, leb-true, ltb-true, not-false, or_cases, or_left, or_right}
+use Rattle.std.proofs.lemmas.Bool.{and_from, cases_lt, eq-eqb, false≢true, leb-true, ltb-true, or_cases, or_left, or_right}
 use Rattle.std.proofs.lemmas.Option.{none-some, same_Some}
 use Rattle.checked_chain.proofs.ChoiceLaws.{numbered}
 use Rattle.checked_chain.proofs.WholeLaws.{unlinked, whole_beside}
@@ -15,12 +15,11 @@ use Rattle.placed_cells.proofs.SplitLaws.{port_below}
 use Rattle.placed_cells.specs.Above.{net_above, place_alone}
 use Rattle.placed_cells.specs.Rows.{size_inside}
 use Rattle.placed_cells.specs.Splits.{IsOutsideOf, IsSplit}
-use Rattle.replaced_instances.proofs.StepLeft.{inside_is, number_there, outside_is}
+use Rattle.replaced_instances.proofs.StepLeft.{number_there, outside_is}
 use Rattle.replaced_instances.proofs.StepOutputs.{none_behind, one_more_place}
 use Rattle.replaced_instances.proofs.StepPlaces.{behind_inside, last_whole, which}
 use Rattle.replaced_instances.proofs.StepPorts.{none, observes, plain_port, tied}
-use Rattle.replaced_instances.specs.Steps.{IsStep, compared_at, is_inside_at, is_outside_at}
-use Rattle.replaced_instances.specs.Shown.{StepHidesItsNets}
+use Rattle.replaced_instances.specs.Steps.{IsStep, compared_at, is_outside_at}
 use Rattle.vrt_model.proofs.Filtered.{filter_among}
 use Rattle.vrt_model.proofs.Lists.{among_filter_map, at_there, map_among}
 use Rattle.vrt_model.proofs.Members.{among_any, among_either, among_later, among_map, at_all}
@@ -101,7 +100,7 @@ pub behind_first : {X : Type 0} (xs : List X) (j : ℕ) (x : X) → At (drop 1 x
 behind_first [] j x e = absurd (none-some x e)
 behind_first (y ∷ ys) j x e = e
 
-module _ {at_gates : Bool} (cut : Cut) (blif : Blif) (facts : List CellFacts) (i : ℕ) (p : NumberedPlace) (m : ℕ) (step : IsStep at_gates cut blif facts i p m)
+module _ (cut : Cut) (blif : Blif) (facts : List CellFacts) (i : ℕ) (p : NumberedPlace) (m : ℕ) (step : IsStep cut blif facts i p m)
     (depth : ℕ) (front back : List Place) (split : IsSplit cut.top (suc i) p.at depth front back) where
   abbrev t : Top
   t = cut.top
@@ -251,9 +250,3 @@ module _ {at_gates : Bool} (cut : Cut) (blif : Blif) (facts : List CellFacts) (i
         let from = zip_right (IsWholeAt later blif facts) (whole_places later) whole_circuit.wholes w after.wholes on in
         outside_is t depth p.at pin.net.0 (whole_outside from.0 pin.net.0 from.1 (input_among later blif facts from.0 w pin from.2.whole there));
   }
-
-pub step_hides_its_nets : StepHidesItsNets
-step_hides_its_nets k cut blif facts i p m depth front back whole_circuit phase same lt step split after =
-    let q = compared_at cut.top blif p m in
-    hides cut blif facts i p m step depth front back split k whole_circuit phase (λ n. not (is_inside_at q.circuit (net_above cut.top p.at) n))
-    (λ n e. let j = inside_is q.circuit (net_above cut.top p.at) n (not-false (is_inside_at q.circuit (net_above cut.top p.at) n) e) in (j.0, sym j.2, j.1)) same lt after

@@ -111,7 +111,7 @@ input_given (Clock clock) e = absurd (false≢true e)
 input_given (Input s) e = (refl, refl)
 input_given (Output s) e = absurd (false≢true e)
 
-module _ {at_gates : Bool} (cut : Cut) (blif : Blif) (facts : List CellFacts) (i : ℕ) (p : NumberedPlace) (m : ℕ) (step : IsStep at_gates cut blif facts i p m)
+module _ (cut : Cut) (blif : Blif) (facts : List CellFacts) (i : ℕ) (p : NumberedPlace) (m : ℕ) (step : IsStep cut blif facts i p m)
     (depth : ℕ) (front back : List Place) (split : IsSplit cut.top (suc i) p.at depth front back) where
   abbrev pub t : Top
   t = cut.top
@@ -467,6 +467,6 @@ module _ {at_gates : Bool} (cut : Cut) (blif : Blif) (facts : List CellFacts) (i
         (x.0, x.1, subst (λ (xs : List FlatInstance). Among xs x.0) (sym after.instances) x.2, x.3, x.4, subst (λ (u : Top). is_constrained u.rules (cell_at u.design x.0.cell).name ≡ true) same x.5);
   }
 
-pub step_has_left_instances : {at_gates : Bool} → StepHasLeftInstances at_gates
+pub step_has_left_instances : StepHasLeftInstances
 step_has_left_instances k cut blif facts i p m depth front back c whole_circuit phase same lt step split circuit after =
     has_left cut blif facts i p m step depth front back split k c whole_circuit phase same lt circuit after

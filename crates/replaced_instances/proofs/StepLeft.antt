@@ -16,14 +16,14 @@ use Rattle.placed_cells.proofs.InstanceLaws.{device_named, inside_image, net_ins
 use Rattle.placed_cells.specs.Above.{net_above, place_alone}
 use Rattle.placed_cells.specs.Rows.{size_inside}
 use Rattle.placed_cells.specs.Splits.{IsOutsideOf, IsSplit}
-use Rattle.replaced_instances.proofs.Exposures.{AreCompared, AreExposed, no_channel_at, no_other_at, none_exposed, not_alone, other_at, touches_by}
+use Rattle.replaced_instances.proofs.Exposures.{AreCompared, AreExposed, no_channel_at, no_other_at, not_alone, other_at, touches_by}
 use Rattle.replaced_instances.proofs.OutputPorts.{count_below_port}
 use Rattle.replaced_instances.proofs.PinOutputs.{output_pin, pin_output, settled}
 use Rattle.replaced_instances.proofs.StepOutputs.{outputs_behind}
 use Rattle.replaced_instances.proofs.StepPlaced.{is_alone, other_there, placed, shows}
 use Rattle.replaced_instances.proofs.StepPlaces.{IsDeviceIn, earlier_or_inside, later_outside}
 use Rattle.replaced_instances.proofs.StepPorts.{none, output_of_port, output_plain, plain_output, port_of_output, rising, tied}
-use Rattle.replaced_instances.specs.Steps.{IsStep, StepIsLeftWhole, compared_at, fresh_place, is_hidden_at, is_inside_at, is_outside_at}
+use Rattle.replaced_instances.specs.Steps.{IsStep, compared_at, fresh_place, is_hidden_at, is_outside_at}
 use Rattle.vrt_model.proofs.Filtered.{among_kept, filter_among}
 use Rattle.vrt_model.proofs.Lists.{at_back, at_either, at_front, at_map, map_at, one_at}
 use Rattle.vrt_model.proofs.Members.{among_any, any_among}
@@ -76,9 +76,6 @@ hidden_compared cell exposed at = record {
       (and_from (not (exposed j)) (is_plain_at cell j && (at j == at j)) (ap not e) (and_from (is_plain_at cell j) (at j == at j) (is_plain_is cell j plain) (eq-eqb (at j) (at j) refl))));
 }
 
-pub inside_is : (cell : Circuit) (at : ℕ → ℕ) (n : ℕ) → is_inside_at cell at n ≡ true → (j : ℕ) × IsPlain cell j × (at j ≡ n)
-inside_is cell at n e = let found = (hidden_compared cell (λ j. false) at).hidden n (ap not e) in (found.0, found.1, found.2)
-
 pub outside_is : (t : Top) (depth : ℕ) (p : Place) (n : ℕ) → IsOutsideOf t depth p n → is_outside_at t depth p n ≡ true
 outside_is t depth p n (inl low) = or_left (nat_lt n p.base) (nat_le (p.base + size_inside t depth p.cell) n) (lt-ltb n p.base low)
 outside_is t depth p n (inr high) = or_right (nat_lt n p.base) (nat_le (p.base + size_inside t depth p.cell) n) (le-leb (p.base + size_inside t depth p.cell) n high)
@@ -92,7 +89,7 @@ not_outside_is t depth p n e = elim (cases_lt n p.base) [
   ]
 ]
 
-module _ {at_gates : Bool} (cut : Cut) (blif : Blif) (facts : List CellFacts) (i : ℕ) (p : NumberedPlace) (m : ℕ) (step : IsStep at_gates cut blif facts i p m)
+module _ (cut : Cut) (blif : Blif) (facts : List CellFacts) (i : ℕ) (p : NumberedPlace) (m : ℕ) (step : IsStep cut blif facts i p m)
     (depth : ℕ) (front back : List Place) (split : IsSplit cut.top (suc i) p.at depth front back)
     (c : Circuit) (circuit : IsCircuitWith (before cut i) blif facts c)
     (exposed : ℕ → Bool) (drive : ℕ → ℕ) (exposure : AreExposed cut blif facts i p m exposed drive)
@@ -444,9 +441,3 @@ module _ {at_gates : Bool} (cut : Cut) (blif : Blif) (facts : List CellFacts) (i
       fresh_pins = fresh_there;
       pins_back = old_or_fresh;
     }
-
-pub step_is_left_whole : StepIsLeftWhole
-step_is_left_whole cut blif facts i p m depth front back c whole_circuit drive step split circuit after =
-    let k = compared_at cut.top blif p m in
-    left_whole cut blif facts i p m step depth front back split c circuit (λ n. false) drive (none_exposed cut blif facts i p m drive step)
-    (λ n. not (is_inside_at k.circuit (net_above cut.top p.at) n)) (hidden_compared k.circuit (λ n. false) (net_above cut.top p.at)) whole_circuit after

@@ -10,15 +10,14 @@ use Rattle.checked_chain.proofs.DriveLaws.{last_there, nothing_in, other_instanc
 use Rattle.placed_cells.proofs.CutLaws.{cut_shows_inside}
 use Rattle.placed_cells.proofs.DepthLaws.{ordered_is_within_depth}
 use Rattle.placed_cells.proofs.InstanceLaws.{inside_image, instance_is_placed}
-use Rattle.placed_cells.proofs.SplitLaws.{places_in_stand_together}
 use Rattle.placed_cells.specs.Above.{net_above, place_alone}
 use Rattle.placed_cells.specs.Instances.{HasPlacedPorts, ShowsInside}
 use Rattle.placed_cells.specs.Splits.{IsSplit}
-use Rattle.replaced_instances.proofs.Exposures.{AreExposed, IsExposed, channel_at_net, channel_low, no_channel_at, no_other_at, none_exposed, not_alone, other_at, other_drive}
+use Rattle.replaced_instances.proofs.Exposures.{AreExposed, IsExposed, channel_at_net, channel_low, no_channel_at, no_other_at, not_alone, other_at, other_drive}
 use Rattle.replaced_instances.proofs.PinOutputs.{pin_output, settled}
 use Rattle.replaced_instances.proofs.StepPlaces.{earlier_or_inside}
-use Rattle.replaced_instances.proofs.StepPorts.{IsPortNet, free, keeps_free, may, met_kind, no_holds, none, output_plain, place_there, plain_output, port_or_supply, tied}
-use Rattle.replaced_instances.specs.Steps.{IsStep, IsStepAtGates, PortsArePlaced, StepIsPlaced, compared_at}
+use Rattle.replaced_instances.proofs.StepPorts.{IsPortNet, free, keeps_free, may, met_kind, no_holds, none, output_plain, plain_output, port_or_supply, tied}
+use Rattle.replaced_instances.specs.Steps.{IsStep, compared_at}
 use Rattle.vrt_model.proofs.Filtered.{filter_among}
 use Rattle.vrt_model.proofs.Lists.{map_among, one_at}
 use Rattle.vrt_model.proofs.Members.{among_flat_map, among_map, at_all}
@@ -62,7 +61,7 @@ module _ (cut other : Cut) (blif : Blif) (facts : List CellFacts) (c : Circuit) 
       let there = map_among (moved other) (flat_holds other.top) from.0 (subst (λ (t : Top). Among (flat_holds t) from.0) (sym same) from.1) in
       (moved other from.0, there, ap (λ (h : Hold). h.net.0) from.2 ∙ held.2)
 
-module _ {at_gates : Bool} (cut : Cut) (blif : Blif) (facts : List CellFacts) (i : ℕ) (p : NumberedPlace) (m : ℕ) (step : IsStep at_gates cut blif facts i p m)
+module _ (cut : Cut) (blif : Blif) (facts : List CellFacts) (i : ℕ) (p : NumberedPlace) (m : ℕ) (step : IsStep cut blif facts i p m)
     (depth : ℕ) (front back : List Place) (split : IsSplit cut.top (suc i) p.at depth front back)
     (c : Circuit) (circuit : IsCircuitWith (before cut i) blif facts c) where
   abbrev t : Top
@@ -283,24 +282,3 @@ module _ {at_gates : Bool} (cut : Cut) (blif : Blif) (facts : List CellFacts) (i
   placed exposed drive exposure =
       instance_is_placed t k.pairing i p.at depth front back c exposed drive step.netlist.design step.netlist.ordered step.netlist.there step.netlist.ties split
       (none cut blif facts i p m step) step.roles (no_holds cut blif facts i p m step) shows (ports exposed drive exposure)
-
--- where all outputs meet gates alone, one of another instance is at none of them
-module _ (cut : Cut) (blif : Blif) (facts : List CellFacts) (i : ℕ) (p : NumberedPlace) (m : ℕ) (step : IsStepAtGates cut blif facts i p m)
-    (depth : ℕ) (front back : List Place) (split : IsSplit cut.top (suc i) p.at depth front back)
-    (c : Circuit) (circuit : IsCircuitWith (before cut i) blif facts c) where
-  pub no_pin : (o one : OutputAt) → Among (outputs_of_place cut.top blif facts p) o → Among (all_outputs (before cut i) blif facts) one → one.pin.net.0 ≡ o.pin.net.0 → ⊥
-  no_pin o one on there same =
-      no_other_at (checked_devices (before cut (suc i))) (all_outputs (before cut (suc i)) blif facts) o one (step.gates o on)
-      (other_there cut blif facts i p m step depth front back split c circuit o one on there same)
-
--- ---- the laws
-
-pub ports_are_placed : PortsArePlaced
-ports_are_placed cut blif facts i p m c drive step circuit =
-    let s = places_in_stand_together cut.top (suc i) p.at (place_there cut blif facts i p m step) in
-    ports cut blif facts i p m step s.0 s.1 s.2 s.3 c circuit (λ n. false) drive (none_exposed cut blif facts i p m drive step)
-
-pub step_is_placed : StepIsPlaced
-step_is_placed cut blif facts i p m c drive step circuit =
-    let s = places_in_stand_together cut.top (suc i) p.at (place_there cut blif facts i p m step) in
-    placed cut blif facts i p m step s.0 s.1 s.2 s.3 c circuit (λ n. false) drive (none_exposed cut blif facts i p m drive step)

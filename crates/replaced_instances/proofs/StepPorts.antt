@@ -1,10 +1,9 @@
 -- The ports of an instance that comes to be whole: its outputs are at its plain nets there.
 use Rattle.std.proofs.Common.{◌≡◌, ◌⊎◌, ◌+◌, ◌++◌, ◌<◌, ◌&&◌, ◌∷◌, [], ℕ, zero, suc, not, List, Bool, true, false, map, length, Option, Some, None, refl, ap, sym, ◌∙◌, subst, arith, inl, inr}
-use Rattle.std.specs.Prelude.{flat_map, is_some, option_map, slice_get, unwrap_or, ◌==◌}
+use Rattle.std.specs.Prelude.{flat_map, is_some, option_map, slice_get, unwrap_or}
 use Rattle.std.specs.List.{enumerate_from}
-use Rattle.std.proofs.lemmas.Bool.{and_parts, cases_Bool, eqb-true, false≢true}
+use Rattle.std.proofs.lemmas.Bool.{and_parts, cases_Bool, false≢true}
 use Rattle.std.proofs.lemmas.Option.{none-some, same_Some, slice_get_within}
-use Rattle.cell_inside.specs.Inside.{Touches}
 use Rattle.cell_inside.specs.Placed.{IsSupply}
 use Rattle.cell_inside.specs.Shifted.{NamesNoGlobal, top_alone}
 use Rattle.checked_chain.proofs.ChoiceLaws.{at_enumerated, numbered_at}
@@ -13,15 +12,13 @@ use Rattle.placed_cells.proofs.NameLaws.{name_among}
 use Rattle.placed_cells.proofs.RowLaws.{port_count}
 use Rattle.placed_cells.proofs.TieLaws.{instances_are_tied}
 use Rattle.placed_cells.specs.Above.{IsTied, net_above, place_alone}
-use Rattle.replaced_instances.proofs.Exposures.{no_channel_at, no_other_at, other_at}
 use Rattle.replaced_instances.proofs.OutputPorts.{IsRising, NamedNets, driven_drive, driven_nets, driven_signals, flat_of_port, is_net_role, out_is_net, outputs_rise, pin_at, pins_are, port_of_flat}
-use Rattle.replaced_instances.specs.Steps.{IsAllowedInstance, IsStep, IsStepAtGates, compared_at}
+use Rattle.replaced_instances.specs.Steps.{IsAllowedInstance, IsStep, compared_at}
 use Rattle.vrt_model.proofs.Filtered.{among_kept, filter_among}
 use Rattle.vrt_model.proofs.Lists.{at_front, at_map, at_there, map_at, one_at}
 use Rattle.vrt_model.proofs.Members.{at_all}
 use Rattle.vrt_model.specs.CellRules.{supply_of}
 use Rattle.vrt_model.specs.Checked.{before, has_fact, keeps_inputs_free, may_meet_channels, names_no_global, observes_outputs}
-use Rattle.vrt_model.specs.CheckedParts.{checked_devices}
 use Rattle.vrt_model.specs.Comparison.{Comparison, CellPort, cell_at, output_signal, ports_of}
 use Rattle.vrt_model.specs.Cut.{Cut, NumberedPlace, is_inside_whole}
 use Rattle.vrt_model.specs.Facts.{IsTrueFor, output_ports}
@@ -30,9 +27,8 @@ use Rattle.vrt_model.specs.Known.{IsPlain, is_plain_kind}
 use Rattle.vrt_model.specs.Lists.{Among, At}
 use Rattle.vrt_model.specs.PairedPorts.{Paired, Model, Skipped, Missing}
 use Rattle.vrt_model.specs.Unrolled.{Top, all_places, deepest, globals_of, names_global}
-use Rattle.vrt_model.specs.WholeInstances.{OutputAt, Pin, all_outputs, drive_in, driven_pins, driven_pins_from, outputs_of_place, pins_from, pins_of}
+use Rattle.vrt_model.specs.WholeInstances.{OutputAt, Pin, drive_in, driven_pins, driven_pins_from, outputs_of_place, pins_from, pins_of}
 use Rattle.vrt_model.specs.declared.blif.Blif.{Blif}
-use Rattle.vrt_model.specs.declared.circuit.Device.{Device}
 use Rattle.vrt_model.specs.declared.circuit.FlatNet.{FlatNet}
 use Rattle.vrt_model.specs.declared.circuit.NetKind.TheVariants.{Plain, Supply as SupplyNet}
 use Rattle.vrt_model.specs.declared.pairing.PortRole.{PortRole}
@@ -68,7 +64,7 @@ enumerated_at {X} n (y ∷ xs) zero x e = ap (λ (z : X). Some (n, z)) (same_Som
 enumerated_at {X} n (y ∷ xs) (suc i) x e =
     enumerated_at (n + 1) xs i x e ∙ ap (λ (k : ℕ). Some (k, x)) (let same : (n + 1) + i ≡ n + suc i = omega arith in same)
 
-module _ {at_gates : Bool} (cut : Cut) (blif : Blif) (facts : List CellFacts) (i : ℕ) (p : NumberedPlace) (m : ℕ) (step : IsStep at_gates cut blif facts i p m) where
+module _ (cut : Cut) (blif : Blif) (facts : List CellFacts) (i : ℕ) (p : NumberedPlace) (m : ℕ) (step : IsStep cut blif facts i p m) where
   abbrev t : Top
   t = cut.top
 
@@ -308,23 +304,3 @@ module _ {at_gates : Bool} (cut : Cut) (blif : Blif) (facts : List CellFacts) (i
         port.2,
         o.2 ∙ ap at port.2,
       )
-
--- ---- its outputs at gates alone
-
-module _ (cut : Cut) (blif : Blif) (facts : List CellFacts) (i : ℕ) (p : NumberedPlace) (m : ℕ) (step : IsStepAtGates cut blif facts i p m) where
-  abbrev devices : List Device
-  devices = checked_devices (before cut (suc i))
-
-  abbrev outputs : List OutputAt
-  outputs = all_outputs (before cut (suc i)) blif facts
-
-  pub no_channel : (o : OutputAt) (e : Device) → Among (outputs_of_place cut.top blif facts p) o → Among devices e → Touches e o.pin.net.0 → ⊥
-  no_channel o e on there touch = no_channel_at devices outputs o e (step.gates o on) there touch
-
-  -- at its net no other output is
-  pub one_output : (o other : OutputAt) → Among (outputs_of_place cut.top blif facts p) o → Among outputs other → other.pin.net.0 ≡ o.pin.net.0 → ((other.instance == o.instance) ≡ true) × (other.output ≡ o.output)
-  one_output o other on there same =
-      elim (cases_Bool ((other.instance == o.instance) && (other.output == o.output))) [
-        | inl e ↦ (let both = and_parts (other.instance == o.instance) (other.output == o.output) e in (both.0, eqb-true other.output o.output both.1))
-        | inr e ↦ absurd (no_other_at devices outputs o other (step.gates o on) (other_at devices outputs o other there same e))
-      ]

@@ -2,7 +2,7 @@
 use Rattle.std.specs.Prelude.{◌≡◌, ℕ, ◌<◌, Bool, true, List, length}
 use Rattle.cell_inside.specs.Unjoined.{AreInDifferentParts}
 use Rattle.placed_cells.specs.Above.{net_above}
-use Rattle.replaced_instances.specs.Steps.{IsChosenStep, compared_at, drive_at, exposed_at}
+use Rattle.replaced_instances.specs.Steps.{IsStep, compared_at, drive_at, exposed_at}
 use Rattle.vrt_model.specs.Comparison.{CellPort, is_observed, phase_at}
 use Rattle.vrt_model.specs.Constraints.{Meets}
 use Rattle.vrt_model.specs.Cut.{Cut, NumberedPlace}
@@ -22,7 +22,7 @@ use Rattle.vrt_model.specs.declared.whole.Drive.TheVariants.{Level}
 -- The law: what is told of an exposed output is so: its net in the cell always has the level of its drive, and is alone inside.
 abbrev pub ExposedDrivesAreTrue : Type 0
 ExposedDrivesAreTrue =
-    (cut : Cut) (blif : Blif) (facts : List CellFacts) (i : ℕ) (p : NumberedPlace) (m n : ℕ) → IsChosenStep cut blif facts i p m
+    (cut : Cut) (blif : Blif) (facts : List CellFacts) (i : ℕ) (p : NumberedPlace) (m n : ℕ) → IsStep cut blif facts i p m
     → let k = compared_at cut.top blif p m in
     exposed_at cut blif facts i p k n ≡ true
     → (port : CellPort) × Among (output_ports k) port × (port.net ≡ n) × IsTrueDrive k port (Level (drive_at facts p k n))
@@ -31,7 +31,7 @@ ExposedDrivesAreTrue =
 abbrev pub ExposedOutputsAreApart : Type 0
 ExposedOutputsAreApart =
     (cut : Cut) (blif : Blif) (facts : List CellFacts) (i : ℕ) (p : NumberedPlace) (m phase : ℕ) (which : Bool)
-    → IsChosenStep cut blif facts i p m → phase < length cut.top.rules.phases
+    → IsStep cut blif facts i p m → phase < length cut.top.rules.phases
     → let k = compared_at cut.top blif p m in
     AreInDifferentParts k.circuit (phase_at k.rules phase) which (net_above cut.top p.at) (exposed_at cut blif facts i p k)
 
@@ -40,7 +40,7 @@ ExposedOutputsAreApart =
 abbrev pub ExposedOutputsHaveDrives : Type 0
 ExposedOutputsHaveDrives =
     (cut : Cut) (blif : Blif) (facts : List CellFacts) (i : ℕ) (p : NumberedPlace) (m phase n : ℕ) (bits : List Bool) (a : Partial) (s : State) (which : Bool)
-    → IsChosenStep cut blif facts i p m → phase < length cut.top.rules.phases
+    → IsStep cut blif facts i p m → phase < length cut.top.rules.phases
     → let k = compared_at cut.top blif p m in
     HasRanges k.circuit → exposed_at cut blif facts i p k n ≡ true
     → Meets k phase bits → Solves k phase (setting_of k phase bits) a

@@ -59,16 +59,9 @@ AreAllowed cut blif facts =
     (i : ℕ) (p : NumberedPlace) → At (numbered_places cut.top) (suc i) p → cut.choice i ≡ true
     → (is_inside_whole (before cut i) p.at ≡ false) × ((m : ℕ) × IsAllowedInstance (before cut i) blif facts i p m)
 
--- where it is asked for, each output of an instance meets gates alone in the circuit in which it and the chosen ones before it are whole
-abbrev pub AreAtGates : Bool → Cut → Blif → List CellFacts → ℕ → NumberedPlace → Type 0
-AreAtGates false cut blif facts i p = Unit {0}
-AreAtGates true cut blif facts i p =
-    (o : OutputAt) → Among (outputs_of_place cut.top blif facts p) o
-    → meets_gates_only (checked_devices (before cut (suc i))) (all_outputs (before cut (suc i)) blif facts) o ≡ true
-
 -- the instance at place i, whose cell pairs with model m, is among those that are left whole, which are tried one by one; and what is told
 -- of cells is so
-pub record IsStep (at_gates : Bool) (cut : Cut) (blif : Blif) (facts : List CellFacts) (i : ℕ) (p : NumberedPlace) (m : ℕ) : Type 0 where
+pub record IsStep (cut : Cut) (blif : Blif) (facts : List CellFacts) (i : ℕ) (p : NumberedPlace) (m : ℕ) : Type 0 where
   pub netlist : IsSoundNetlist cut.top
   pub told : (cell : ℕ) (f : CellFacts) → At facts cell f → IsTrueOf cut.top.design blif cut.top.rules cell f
   pub tried : AreAllowed cut blif facts
@@ -76,15 +69,6 @@ pub record IsStep (at_gates : Bool) (cut : Cut) (blif : Blif) (facts : List Cell
   pub place : At (numbered_places cut.top) (suc i) p
   pub paired : paired_model cut.top.design blif cut.top.rules p.at.cell ≡ Model m
   pub roles : HasRoles cut.top.rules (cell_at cut.top.design p.at.cell) (compared_at cut.top blif p m).pairing
-  pub gates : AreAtGates at_gates cut blif facts i p
-
--- a step, whatever its outputs meet
-abbrev pub IsChosenStep : Cut → Blif → List CellFacts → ℕ → NumberedPlace → ℕ → Type 0
-IsChosenStep cut blif facts i p m = IsStep false cut blif facts i p m
-
--- a step behind which the outputs of the instance meet gates alone
-abbrev pub IsStepAtGates : Cut → Blif → List CellFacts → ℕ → NumberedPlace → ℕ → Type 0
-IsStepAtGates cut blif facts i p m = IsStep true cut blif facts i p m
 
 -- ---- what the outputs meet
 
@@ -112,7 +96,7 @@ drive_at facts p k n = level_of_drive 0 (drive_in facts p.at.cell (output_place 
 abbrev pub ChosenPortsArePlaced : Type 0
 ChosenPortsArePlaced =
     (cut : Cut) (blif : Blif) (facts : List CellFacts) (i : ℕ) (p : NumberedPlace) (m : ℕ) (c : Circuit)
-    → IsChosenStep cut blif facts i p m → 0 < length cut.top.rules.phases → IsCircuitWith (before cut i) blif facts c
+    → IsStep cut blif facts i p m → 0 < length cut.top.rules.phases → IsCircuitWith (before cut i) blif facts c
     → let k = compared_at cut.top blif p m in
     HasPlacedPorts k.circuit c (net_above cut.top p.at) (place_alone cut.top p.at).base (exposed_at cut blif facts i p k) (drive_at facts p k)
 
@@ -120,29 +104,11 @@ ChosenPortsArePlaced =
 abbrev pub ChosenStepIsPlaced : Type 0
 ChosenStepIsPlaced =
     (cut : Cut) (blif : Blif) (facts : List CellFacts) (i : ℕ) (p : NumberedPlace) (m : ℕ) (c : Circuit)
-    → IsChosenStep cut blif facts i p m → 0 < length cut.top.rules.phases → IsCircuitWith (before cut i) blif facts c
+    → IsStep cut blif facts i p m → 0 < length cut.top.rules.phases → IsCircuitWith (before cut i) blif facts c
     → let k = compared_at cut.top blif p m in
     IsPlaced k.circuit c (net_above cut.top p.at) (exposed_at cut blif facts i p k) (drive_at facts p k)
 
--- The law: where its outputs meet gates alone, its ports are as they have to be with none exposed.
-abbrev pub PortsArePlaced : Type 0
-PortsArePlaced =
-    (cut : Cut) (blif : Blif) (facts : List CellFacts) (i : ℕ) (p : NumberedPlace) (m : ℕ) (c : Circuit) (drive : ℕ → ℕ)
-    → IsStepAtGates cut blif facts i p m → IsCircuitWith (before cut i) blif facts c
-    → HasPlacedPorts (compared_at cut.top blif p m).circuit c (net_above cut.top p.at) (place_alone cut.top p.at).base (λ n. false) drive
-
--- The law: so the cell's flat circuit stands there.
-abbrev pub StepIsPlaced : Type 0
-StepIsPlaced =
-    (cut : Cut) (blif : Blif) (facts : List CellFacts) (i : ℕ) (p : NumberedPlace) (m : ℕ) (c : Circuit) (drive : ℕ → ℕ)
-    → IsStepAtGates cut blif facts i p m → IsCircuitWith (before cut i) blif facts c
-    → IsPlaced (compared_at cut.top blif p m).circuit c (net_above cut.top p.at) (λ n. false) drive
-
 -- ---- the circuit after the step
-
--- the net is a plain net of the cell, where its net n is at `at n`
-abbrev pub is_inside_at : Circuit → (ℕ → ℕ) → ℕ → Bool
-is_inside_at cell at n = list_any (λ j. is_plain_at cell j && (at j == n)) (places 0 cell.nets)
 
 -- the net is no own net of the place or of those in it at most so deep
 abbrev pub is_outside_at : Top → ℕ → Place → ℕ → Bool
@@ -166,18 +132,8 @@ fresh_place cut blif facts k n = length (all_outputs cut blif facts) + output_pl
 abbrev pub ChosenStepIsLeftWhole : Type 0
 ChosenStepIsLeftWhole =
     (cut : Cut) (blif : Blif) (facts : List CellFacts) (i : ℕ) (p : NumberedPlace) (m depth : ℕ) (front back : List Place) (c whole_circuit : Circuit)
-    → IsChosenStep cut blif facts i p m → 0 < length cut.top.rules.phases → IsSplit cut.top (suc i) p.at depth front back
+    → IsStep cut blif facts i p m → 0 < length cut.top.rules.phases → IsSplit cut.top (suc i) p.at depth front back
     → IsCircuitWith (before cut i) blif facts c → IsCircuitWith (before cut (suc i)) blif facts whole_circuit
     → let k = compared_at cut.top blif p m in
     IsLeftWhole k.circuit c whole_circuit (net_above cut.top p.at) (λ n. n) (λ j. j) (fresh_place (before cut i) blif facts k)
     (is_outside_at cut.top depth p.at) (compared_at_step cut blif facts i p k) (exposed_at cut blif facts i p k) (drive_at facts p k)
-
--- The law: where its outputs meet gates alone, none is exposed, and all but plain nets of the cell are compared.
-abbrev pub StepIsLeftWhole : Type 0
-StepIsLeftWhole =
-    (cut : Cut) (blif : Blif) (facts : List CellFacts) (i : ℕ) (p : NumberedPlace) (m depth : ℕ) (front back : List Place) (c whole_circuit : Circuit) (drive : ℕ → ℕ)
-    → IsStepAtGates cut blif facts i p m → IsSplit cut.top (suc i) p.at depth front back
-    → IsCircuitWith (before cut i) blif facts c → IsCircuitWith (before cut (suc i)) blif facts whole_circuit
-    → let k = compared_at cut.top blif p m in
-    IsLeftWhole k.circuit c whole_circuit (net_above cut.top p.at) (λ n. n) (λ j. j) (fresh_place (before cut i) blif facts k)
-    (is_outside_at cut.top depth p.at) (λ n. not (is_inside_at k.circuit (net_above cut.top p.at) n)) (λ n. false) drive

@@ -14,7 +14,4 @@ pub use chosen::{
 pub use exposed::{
     exposed_drives_are_true, exposed_outputs_are_apart, exposed_outputs_have_drives,
 };
-pub use steps::{
-    ports_are_placed, step_has_left_instances, step_hides_its_nets, step_is_left_whole,
-    step_is_placed,
-};
+pub use steps::step_has_left_instances;

@@ -44,7 +44,7 @@ use Rattle.vrt_model.specs.declared.whole.CellFacts.{CellFacts}
 use Rattle.whole_ranks.proofs.DefinedLaws.{solutions_are_defined}
 use Rattle.whole_ranks.proofs.RankLaws.{acyclic_nets_have_ranks}
 
-module _ {all_soft : Bool} (k : Comparison) (cut : Cut) (blif : Blif) (facts : List CellFacts) (c : Circuit) (h : IsCheckedByFacts all_soft k cut blif facts c) where
+module _ (k : Comparison) (cut : Cut) (blif : Blif) (facts : List CellFacts) (c : Circuit) (h : IsCheckedByFacts k cut blif facts c) where
   abbrev t : Top
   t = cut.top
 
@@ -52,7 +52,7 @@ module _ {all_soft : Bool} (k : Comparison) (cut : Cut) (blif : Blif) (facts : L
 
   module _ (i : ℕ) (d e : Circuit) (low : suc i < length (all_places t)) (chosen : cut.choice i ≡ true) (before_it : IsCircuitWith (before cut i) blif facts d)
       (after : IsCircuitWith (before cut (suc i)) blif facts e) where
-    abbrev step : (p : NumberedPlace) × (m : ℕ) × (depth : ℕ) × (front : List Place) × (back : List Place) × IsStepOf all_soft k cut blif facts i p m depth front back d e
+    abbrev step : (p : NumberedPlace) × (m : ℕ) × (depth : ℕ) × (front : List Place) × (back : List Place) × IsStepOf k cut blif facts i p m depth front back d e
     step = step_at k cut blif facts c h i d e low chosen before_it after
 
     abbrev later : List FlatInstance
@@ -150,5 +150,5 @@ module _ {all_soft : Bool} (k : Comparison) (cut : Cut) (blif : Blif) (facts : L
             agreement_is_transitive k there.0 d (agrees_at i there.0 (omega (arith, low)) there.1) (step_agrees i there.0 d low chosen there.1 circuit)
       ]
 
-pub checked_circuits_agree : {all_soft : Bool} → CheckedCircuitsAgree all_soft
+pub checked_circuits_agree : CheckedCircuitsAgree
 checked_circuits_agree k cut blif facts c h = (let last = at_last k cut blif facts c h in agrees_at k cut blif facts c h last.0 c last.1 last.2)

@@ -63,7 +63,7 @@ listed_at t j r e =
     let number : 0 + j ≡ j = omega arith in
     subst (λ (x : ℕ). At (numbered_places t) j (record { number = x; at = r })) number (map_at make (enumerate_from 0 (all_places t)) j (0 + j, r) (enumerated_at 0 (all_places t) j r e))
 
-module _ {all_soft : Bool} (k : Comparison) (cut : Cut) (blif : Blif) (facts : List CellFacts) (c : Circuit) (h : IsCheckedByFacts all_soft k cut blif facts c) where
+module _ (k : Comparison) (cut : Cut) (blif : Blif) (facts : List CellFacts) (c : Circuit) (h : IsCheckedByFacts k cut blif facts c) where
   abbrev t : Top
   t = cut.top
 
@@ -140,7 +140,7 @@ module _ {all_soft : Bool} (k : Comparison) (cut : Cut) (blif : Blif) (facts : L
 
   -- the step at an instance that is chosen
   pub step_at : (i : ℕ) (d e : Circuit) → suc i < length (all_places t) → cut.choice i ≡ true → IsCircuitWith (before cut i) blif facts d → IsCircuitWith (before cut (suc i)) blif facts e
-      → (p : NumberedPlace) × (m : ℕ) × (depth : ℕ) × (front : List Place) × (back : List Place) × IsStepOf all_soft k cut blif facts i p m depth front back d e
+      → (p : NumberedPlace) × (m : ℕ) × (depth : ℕ) × (front : List Place) × (back : List Place) × IsStepOf k cut blif facts i p m depth front back d e
   step_at i d e low chosen before_it after =
       let p = place_of_instance i low in
       let step = chosen_instances_are_steps cut blif facts i p.0 h.choice p.1 chosen in
@@ -169,5 +169,5 @@ module _ {all_soft : Bool} (k : Comparison) (cut : Cut) (blif : Blif) (facts : L
       by_count zero lt = absurd (omega (arith, lt))
       by_count (suc n) lt = (n, refl)
 
-pub chain_is_always_solved : {all_soft : Bool} → ChainIsAlwaysSolved all_soft
+pub chain_is_always_solved : ChainIsAlwaysSolved
 chain_is_always_solved k cut blif facts c n d h low circuit = always_solved k cut blif facts c h n d circuit low

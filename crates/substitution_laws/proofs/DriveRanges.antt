@@ -1,10 +1,9 @@
 -- What is told of how strongly outputs of equal cells drive is a level of devices.
-use Rattle.std.proofs.Common.{◌≡◌, ℕ, suc, ◌<◌, Bool, List, [], length, refl, sym, ◌∙◌}
+use Rattle.std.proofs.Common.{◌≡◌, ℕ, suc, ◌<◌, List, [], length, refl, sym, ◌∙◌}
 use Rattle.std.specs.Prelude.{is_some}
 use Rattle.formed_cells.specs.Formed.{IsFormed}
 use Rattle.placed_cells.proofs.SplitLaws.{places_in_stand_together}
 use Rattle.replaced_instances.proofs.ChosenSteps.{told_drive}
-use Rattle.replaced_instances.proofs.Exposures.{chosen_step}
 use Rattle.replaced_instances.proofs.StepHides.{output_observed}
 use Rattle.replaced_instances.proofs.StepPorts.{no_holds, output_drive, output_plain, place_there, port_of_output, told}
 use Rattle.replaced_instances.specs.Steps.{IsStep, compared_at}
@@ -31,7 +30,7 @@ pub flat_source : (t : Top) → (flat_circuit_of t).source ≡ source_of t.rules
 unfolding flat_circuit_of
 flat_source t = refl
 
-module _ {all_soft : Bool} (cut : Cut) (blif : Blif) (facts : List CellFacts) (i : ℕ) (p : NumberedPlace) (m : ℕ) (step : IsStep all_soft cut blif facts i p m)
+module _ (cut : Cut) (blif : Blif) (facts : List CellFacts) (i : ℕ) (p : NumberedPlace) (m : ℕ) (step : IsStep cut blif facts i p m)
     (formed : IsFormed (compared_at cut.top blif p m)) (some_phase : 0 < length cut.top.rules.phases) where
   abbrev q : Comparison
   q = compared_at cut.top blif p m
@@ -50,7 +49,7 @@ module _ {all_soft : Bool} (cut : Cut) (blif : Blif) (facts : List CellFacts) (i
       let out = filter_among (λ (x : CellPort). is_some (output_signal x.role)) (ports_of q) port (j, there) in
       let plain = (output_plain cut blif facts i p m step port (j, there)).1 in
       let seen = output_observed cut blif facts i p m step split.0 split.1 split.2 split.3 0 port some_phase out.0 out.1 in
-      let is_told : HasLevel q port.net level × IsAloneInside q port = told_drive cut blif facts i p m (chosen_step cut blif facts i p m step) j port level there e in
+      let is_told : HasLevel q port.net level × IsAloneInside q port = told_drive cut blif facts i p m step j port level there e in
       level_in_range q 0 (f.2.equal f.1 0 some_phase) ranges_there (no_holds cut blif facts i p m step) no_wholes port.net level some_phase plain seen is_told.0
 
   source_there : q.circuit.source ≡ source_of cut.top.rules

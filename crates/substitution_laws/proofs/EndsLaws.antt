@@ -128,5 +128,5 @@ module _ (cut : Cut) (blif : Blif) (facts : List CellFacts) (h : IsTrial cut bli
 pub tried_ends_are_shown : (cut : Cut) (blif : Blif) (facts : List CellFacts) → IsTrial cut blif facts → AreEndsShown cut
 tried_ends_are_shown cut blif facts h = ends_stay_shown cut (rule_outside cut blif facts h)
 
-pub chosen_ends_are_shown : {all_soft : Bool} → ChosenEndsAreShown all_soft
+pub chosen_ends_are_shown : ChosenEndsAreShown
 chosen_ends_are_shown cut blif facts h = tried_ends_are_shown cut blif facts (trial_of cut blif facts h)

@@ -13,8 +13,8 @@ use Rattle.substitution_laws.proofs.ExampleSupported.{buffer_supported, inverter
 use Rattle.substitution_laws.proofs.FormedCells.{formed_cell}
 use Rattle.substitution_laws.proofs.LoneNets.{alone, gate_arc, rising_arcs_are_acyclic}
 use Rattle.substitution_laws.proofs.SubstitutionLaws.{substitution_holds}
-use Rattle.substitution_laws.specs.Agreement.{IsCheckedSoftly}
-use Rattle.substitution_laws.specs.Chosen.{IsSoftChoice}
+use Rattle.substitution_laws.specs.Agreement.{IsCheckedByFacts}
+use Rattle.substitution_laws.specs.Chosen.{IsChoiceByFacts}
 use Rattle.substitution_laws.specs.Substitution.{FirstStands}
 use Rattle.vrt_model.proofs.Cells.{base}
 use Rattle.vrt_model.specs.Checked.{HasArcWith, IsChoice, IsCircuitWith, MayBeWhole, before, circuit_with, is_cell_allowed, with_circuit, with_one}
@@ -112,14 +112,6 @@ facts_are_true zero f e = record {
 }
 facts_are_true (suc cell) f e = absurd (none-some f e)
 
-facts_are_soft : (cell j : ℕ) (f : CellFacts) (drive : Drive) → At facts cell f → At f.drives j drive → drive ≡ Soft
-facts_are_soft zero j f drive e here = by_place j (subst (λ (x : CellFacts). At x.drives j drive) (sym (same_Some the_facts f e)) here)
-  where
-    by_place : (i : ℕ) → At (Soft ∷ []) i drive → drive ≡ Soft
-    by_place zero q = sym (same_Some Soft drive q)
-    by_place (suc i) q = absurd (none-some drive q)
-facts_are_soft (suc cell) j f drive e here = absurd (none-some f e)
-
 -- ---- the instance may be whole
 
 arc_rises : (phase n m : ℕ) → HasArcWith one_cut blif facts phase n m → order n < order m
@@ -186,12 +178,11 @@ chosen i p at = (
 
 -- ---- the choice
 
-soft_choice : IsSoftChoice cut blif facts
-soft_choice = record {
+the_choice : IsChoiceByFacts cut blif facts
+the_choice = record {
   netlist = netlist_is_sound;
   read = texts_are_read;
   told = facts_are_true;
-  soft = facts_are_soft;
   tried = chosen;
 }
 
@@ -276,13 +267,13 @@ groups_are = refl
 pub instance_is_whole : Among (checked links).wholes (own links)
 instance_is_whole = (0, refl)
 
-pub premises_are_met : IsCheckedSoftly of_buffer cut blif facts (checked links)
+pub premises_are_met : IsCheckedByFacts of_buffer cut blif facts (checked links)
 premises_are_met = record {
-  choice = soft_choice;
+  choice = the_choice;
   top = refl;
   flat = sym flat_is;
   groups = groups_are;
-  formed = subst (λ (c : Circuit). IsCircuit c) (ap (λ (k : Comparison). k.circuit) buffer_is ∙ sym flat_is) (formed_cell cut blif facts 1 1 soft_choice buffer_supported).circuit;
+  formed = subst (λ (c : Circuit). IsCircuit c) (ap (λ (k : Comparison). k.circuit) buffer_is ∙ sym flat_is) (formed_cell cut blif facts 1 1 the_choice buffer_supported).circuit;
   acyclic = λ phase lt. subst (λ (c : Circuit). IsAcyclic (HasArc c (phase_at base phase))) (sym flat_is) (flat_acyclic (phase_at base phase));
   circuit = circuit_is;
 }

@@ -39,13 +39,13 @@ use Rattle.vrt_model.specs.declared.whole.CellFacts.{CellFacts}
 use Rattle.whole_ranks.proofs.RankLaws.{acyclic_nets_have_ranks}
 use Rattle.whole_solutions.proofs.ObservedCases.{gate_observed}
 
-module _ {all_soft : Bool} (k : Comparison) (cut : Cut) (blif : Blif) (facts : List CellFacts) (c : Circuit) (h : IsCheckedByFacts all_soft k cut blif facts c)
+module _ (k : Comparison) (cut : Cut) (blif : Blif) (facts : List CellFacts) (c : Circuit) (h : IsCheckedByFacts k cut blif facts c)
     (phase : ℕ) (lt : phase < length cut.top.rules.phases) (setting : Setting) (kind : FaultKind) (ok : IsFoundByRank kind) where
   abbrev t : Top
   t = cut.top
 
   -- the cell of a step has ranks
-  module _ (i : ℕ) (p : NumberedPlace) (m depth : ℕ) (front back : List Place) (d e : Circuit) (s : IsStepOf all_soft k cut blif facts i p m depth front back d e) where
+  module _ (i : ℕ) (p : NumberedPlace) (m depth : ℕ) (front back : List Place) (d e : Circuit) (s : IsStepOf k cut blif facts i p m depth front back d e) where
     abbrev q : Comparison
     q = compared_at t blif p m
 
@@ -101,5 +101,5 @@ module _ {all_soft : Bool} (k : Comparison) (cut : Cut) (blif : Blif) (facts : L
             (rest.0, same_on d there.0 k.circuit kind l one.0 rest.0 ok one.1 rest.1, rest.2)
       ]
 
-pub firm_ground_reaches_flat : {all_soft : Bool} → FirmGroundReachesFlat all_soft
+pub firm_ground_reaches_flat : FirmGroundReachesFlat
 firm_ground_reaches_flat k cut blif facts c n d phase setting kind at h low circuit lt ok ground = down_at k cut blif facts c h phase lt setting kind ok n d at low circuit ground

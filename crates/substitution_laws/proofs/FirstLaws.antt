@@ -59,7 +59,7 @@ printed_bare k j phase one other a b g e Next at there circuit wanted ok h = abs
 printed_bare k j phase one other a b g e Apart at there circuit wanted ok h = absurd ok
 printed_bare k j phase one other a b g e Enter at there circuit wanted ok h = absurd ok
 
-module _ {all_soft : Bool} (k : Comparison) (cut : Cut) (blif : Blif) (facts : List CellFacts) (c : Circuit) (h : IsCheckedByFacts all_soft k cut blif facts c) where
+module _ (k : Comparison) (cut : Cut) (blif : Blif) (facts : List CellFacts) (c : Circuit) (h : IsCheckedByFacts k cut blif facts c) where
   abbrev t : Top
   t = cut.top
 
@@ -162,5 +162,5 @@ module _ {all_soft : Bool} (k : Comparison) (cut : Cut) (blif : Blif) (facts : L
     pub stands_below : (flat : Finding) × Describes k fault flat × IsFinding k flat × IsSamePlace cut fault.kind flat.at f.at
     stands_below = (flat, flat_described, flat_found, subst (λ (kind : FaultKind). IsSamePlace cut kind down.0 f.at) (sym describes.kind) down.1)
 
-pub first_faults_stand_below : {all_soft : Bool} → FirstFaultsStandBelow all_soft
+pub first_faults_stand_below : FirstFaultsStandBelow
 first_faults_stand_below k cut blif facts c fault f h ok describes first = stands_below k cut blif facts c h fault f ok describes first

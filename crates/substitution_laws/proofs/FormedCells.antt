@@ -1,5 +1,5 @@
 -- The comparisons of the supported cells of a netlist, models and rules as readers give them.
-use Rattle.std.proofs.Common.{ℕ, Bool, List}
+use Rattle.std.proofs.Common.{ℕ, List}
 use Rattle.formed_cells.proofs.FormedLaws.{supported_cells_are_formed}
 use Rattle.formed_cells.specs.Formed.{IsFormed}
 use Rattle.substitution_laws.specs.Chosen.{IsChoiceByFacts}
@@ -9,6 +9,6 @@ use Rattle.vrt_model.specs.declared.blif.Blif.{Blif}
 use Rattle.vrt_model.specs.declared.whole.CellFacts.{CellFacts}
 
 -- each is well formed
-pub formed_cell : {all_soft : Bool} → (cut : Cut) (blif : Blif) (facts : List CellFacts) (cell m : ℕ) → IsChoiceByFacts all_soft cut blif facts → IsSupported cut.top.design blif cut.top.rules cell m
+pub formed_cell : (cut : Cut) (blif : Blif) (facts : List CellFacts) (cell m : ℕ) → IsChoiceByFacts cut blif facts → IsSupported cut.top.design blif cut.top.rules cell m
     → IsFormed (comparison_of cut.top.design blif cut.top.rules cell m)
 formed_cell cut blif facts cell m h supported = supported_cells_are_formed cut.top.design blif cut.top.rules cell m h.read supported

@@ -151,7 +151,7 @@ module _ (k : Comparison) (f : Finding) (first : IsFirstInPhase k f) (later : Is
 
 -- ---- along the chain
 
-module _ {all_soft : Bool} (k : Comparison) (cut : Cut) (blif : Blif) (facts : List CellFacts) (c : Circuit) (h : IsCheckedByFacts all_soft k cut blif facts c)
+module _ (k : Comparison) (cut : Cut) (blif : Blif) (facts : List CellFacts) (c : Circuit) (h : IsCheckedByFacts k cut blif facts c)
     (phase : ℕ) (vals : List Bool) (lt : phase < length k.rules.phases) (g : Assignment) (kind : FaultKind) (later : IsFoundLater kind) (at : ℕ) (value wanted : Option Bool) where
   abbrev t : Top
   t = cut.top
@@ -178,7 +178,7 @@ module _ {all_soft : Bool} (k : Comparison) (cut : Cut) (blif : Blif) (facts : L
 
   module _ (i : ℕ) (d e : Circuit) (low : suc i < length (all_places t)) (chosen : cut.choice i ≡ true) (circuit : IsCircuitWith (before cut i) blif facts d) (after : IsCircuitWith (before cut (suc i)) blif facts e)
       (there : IsThere e) where
-    abbrev step : (p : NumberedPlace) × (m : ℕ) × (depth : ℕ) × (front : List Place) × (back : List Place) × IsStepOf all_soft k cut blif facts i p m depth front back d e
+    abbrev step : (p : NumberedPlace) × (m : ℕ) × (depth : ℕ) × (front : List Place) × (back : List Place) × IsStepOf k cut blif facts i p m depth front back d e
     step = step_at k cut blif facts c h i d e low chosen circuit after
 
     abbrev p : NumberedPlace
@@ -302,7 +302,7 @@ module _ {all_soft : Bool} (k : Comparison) (cut : Cut) (blif : Blif) (facts : L
 
 -- ---- the first fault
 
-module _ {all_soft : Bool} (k : Comparison) (cut : Cut) (blif : Blif) (facts : List CellFacts) (c : Circuit) (f : Finding) (h : IsCheckedByFacts all_soft k cut blif facts c) (later : IsFoundLater f.kind)
+module _ (k : Comparison) (cut : Cut) (blif : Blif) (facts : List CellFacts) (c : Circuit) (f : Finding) (h : IsCheckedByFacts k cut blif facts c) (later : IsFoundLater f.kind)
     (first : IsFirstInPhase (with_circuit k c) f) where
   abbrev last_found : IsFinding (with_circuit k c) f
   last_found = first.found
@@ -382,5 +382,5 @@ module _ {all_soft : Bool} (k : Comparison) (cut : Cut) (blif : Blif) (facts : L
     pub later_stands : (flat : Finding) × Describes k fault flat × IsFinding k flat × IsSamePlace cut fault.kind flat.at f.at
     later_stands = (f, later_described, later_found, subst (λ (x : FaultKind). IsSamePlace cut x f.at f.at) (sym describes.kind) place)
 
-pub later_faults_stand_below : {all_soft : Bool} → LaterFaultsStandBelow all_soft
+pub later_faults_stand_below : LaterFaultsStandBelow
 later_faults_stand_below k cut blif facts c fault f h later describes first = later_stands k cut blif facts c f h later first fault describes

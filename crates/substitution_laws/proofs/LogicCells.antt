@@ -82,7 +82,7 @@ not_met (Output s) kind met = false≢true (ap is_input_kind kind)
 no_latch : (latches : List FlatLatch) (l : FlatLatch) → latches ≡ [] → Among latches l → ⊥
 no_latch latches l none on = none-some l (subst (λ (ls : List FlatLatch). At ls on.0 l) none on.1)
 
-module _ {all_soft : Bool} (cut : Cut) (blif : Blif) (facts : List CellFacts) (i : ℕ) (p : NumberedPlace) (m : ℕ) (step : IsStep all_soft cut blif facts i p m)
+module _ (cut : Cut) (blif : Blif) (facts : List CellFacts) (i : ℕ) (p : NumberedPlace) (m : ℕ) (step : IsStep cut blif facts i p m)
     (supported : IsSupported cut.top.design blif cut.top.rules p.at.cell m) (formed : IsFormed (compared_at cut.top blif p m)) where
   abbrev q : Comparison
   q = compared_at cut.top blif p m
@@ -184,5 +184,5 @@ module _ {all_soft : Bool} (cut : Cut) (blif : Blif) (facts : List CellFacts) (i
         seen = seen phase lt;
       }
 
-pub chosen_cells_are_logic : {all_soft : Bool} → ChosenCellsAreLogic all_soft
+pub chosen_cells_are_logic : ChosenCellsAreLogic
 chosen_cells_are_logic cut blif facts i p m phase h step supported lt = logic_cell cut blif facts i p m step supported (formed_cell cut blif facts p.at.cell m h supported) phase lt

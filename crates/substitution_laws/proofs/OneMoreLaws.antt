@@ -9,11 +9,11 @@ use Rattle.placed_cells.specs.Above.{net_above}
 use Rattle.replaced_cells.proofs.ChainLaws.{chain_keeps_valuations}
 use Rattle.replaced_instances.proofs.ChosenOutputs.{one_part}
 use Rattle.replaced_instances.proofs.ChosenSteps.{chosen_step_hides_its_nets, chosen_step_is_left_whole, chosen_step_is_placed, exposed_true, exposure}
-use Rattle.replaced_instances.proofs.Exposures.{channel_low, chosen_step}
+use Rattle.replaced_instances.proofs.Exposures.{channel_low}
 use Rattle.replaced_instances.proofs.StepInstances.{step_has_left_instances}
 use Rattle.replaced_instances.proofs.StepPorts.{output_of_port, output_plain, tied}
 use Rattle.replaced_cells.specs.OneMoreWhole.{IsExposedOutput, IsOneMoreWhole}
-use Rattle.replaced_instances.specs.Steps.{IsChosenStep, compared_at, compared_at_step, drive_at, exposed_at, fresh_place, is_outside_at}
+use Rattle.replaced_instances.specs.Steps.{IsStep, compared_at, compared_at_step, drive_at, exposed_at, fresh_place, is_outside_at}
 use Rattle.substitution_laws.proofs.LogicCells.{logic_cell}
 use Rattle.substitution_laws.proofs.SeenNets.{HasPortsWithin, port_range, seen_within}
 use Rattle.substitution_laws.proofs.WholeCells.{given, shown, wholes_are_determined}
@@ -58,8 +58,8 @@ no_groups c flat none =
     filter_map_none (λ (p : ℕ × FlatNet). find (λ (h : Placed). h.hold.net.0 == p.0) (placed c)) (enumerate_from 0 c.nets) (λ p. ap (find (λ (h : Placed). h.hold.net.0 == p.0)) unplaced) in
     ap (λ (hs : List Placed). map (λ (h : Placed). group_of c flat h.hold.end) (leaders hs)) unlisted
 
-module _ {all_soft : Bool} (k : Comparison) (cut : Cut) (blif : Blif) (facts : List CellFacts) (i : ℕ) (p : NumberedPlace) (m depth : ℕ) (front back : List Place) (c whole_circuit : Circuit)
-    (h : IsStepOf all_soft k cut blif facts i p m depth front back c whole_circuit) where
+module _ (k : Comparison) (cut : Cut) (blif : Blif) (facts : List CellFacts) (i : ℕ) (p : NumberedPlace) (m depth : ℕ) (front back : List Place) (c whole_circuit : Circuit)
+    (h : IsStepOf k cut blif facts i p m depth front back c whole_circuit) where
   abbrev t : Top
   t = cut.top
 
@@ -105,8 +105,8 @@ module _ {all_soft : Bool} (k : Comparison) (cut : Cut) (blif : Blif) (facts : L
   abbrev drive : ℕ → ℕ
   drive n = drive_at facts p (compared_at cut.top blif p m) n
 
-  any : IsChosenStep cut blif facts i p m
-  any = chosen_step cut blif facts i p m h.step.chosen
+  any : IsStep cut blif facts i p m
+  any = h.step.chosen
 
   some_phase : 0 < length t.rules.phases
   some_phase = h.step.choice.read.valid.some_phase
@@ -178,5 +178,5 @@ module _ {all_soft : Bool} (k : Comparison) (cut : Cut) (blif : Blif) (facts : L
   unfolding one_more
   instance_is phase lt = refl
 
-pub steps_are_one_more_whole : {all_soft : Bool} → StepsAreOneMoreWhole all_soft
+pub steps_are_one_more_whole : StepsAreOneMoreWhole
 steps_are_one_more_whole k cut blif facts i p m depth front back c whole_circuit phase lt h = one_more k cut blif facts i p m depth front back c whole_circuit h phase lt

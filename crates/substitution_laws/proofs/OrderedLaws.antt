@@ -83,7 +83,7 @@ port_named first (x ∷ names) (n ∷ nets) (r ∷ roles) zero name a b e = (rec
 port_named first (x ∷ names) (n ∷ nets) (r ∷ roles) (suc j) name a b e = port_named (suc first) names nets roles j name (omega (arith, a)) (omega (arith, b)) e
 
 -- the net of an instance's port is where that of its cell is
-net_at_port : {all_soft : Bool} → (cut : Cut) (blif : Blif) (facts : List CellFacts) (h : IsChoiceByFacts all_soft cut blif facts) (i : ℕ) (p : NumberedPlace) (m : ℕ) (step : IsStep all_soft cut blif facts i p m)
+net_at_port : (cut : Cut) (blif : Blif) (facts : List CellFacts) (h : IsChoiceByFacts cut blif facts) (i : ℕ) (p : NumberedPlace) (m : ℕ) (step : IsStep cut blif facts i p m)
     → IsSupported cut.top.design blif cut.top.rules p.at.cell m → (j : ℕ) (port : CellPort) (net : Net) → At (ports_of (compared_at cut.top blif p m)) j port → At (flat_instance p.at).ports j net
     → net.0 ≡ net_above cut.top p.at port.net
 net_at_port cut blif facts h i p m step supported j port net e f =
@@ -95,7 +95,7 @@ net_at_port cut blif facts h i p m step supported j port net e f =
 
 -- ---- a circuit of the chain
 
-module _ {all_soft : Bool} (k : Comparison) (cut : Cut) (blif : Blif) (facts : List CellFacts) (c : Circuit) (h : IsCheckedByFacts all_soft k cut blif facts c) (n : ℕ) (d : Circuit) (circuit : IsCircuitWith (before cut n) blif facts d) (phase : ℕ) (lt : phase < length cut.top.rules.phases) where
+module _ (k : Comparison) (cut : Cut) (blif : Blif) (facts : List CellFacts) (c : Circuit) (h : IsCheckedByFacts k cut blif facts c) (n : ℕ) (d : Circuit) (circuit : IsCircuitWith (before cut n) blif facts d) (phase : ℕ) (lt : phase < length cut.top.rules.phases) where
   abbrev t : Top
   t = cut.top
 
@@ -165,7 +165,7 @@ module _ {all_soft : Bool} (k : Comparison) (cut : Cut) (blif : Blif) (facts : L
           seen = seen;
         }
 
-pub chain_circuits_are_ordered : {all_soft : Bool} → ChainCircuitsAreOrdered all_soft
+pub chain_circuits_are_ordered : ChainCircuitsAreOrdered
 chain_circuits_are_ordered k cut blif facts c n d phase setting h circuit lt = (
   (known k cut blif facts c h n d circuit phase lt).0,
   is_ordered k cut blif facts c h n d circuit phase lt setting,

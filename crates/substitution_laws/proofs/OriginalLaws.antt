@@ -1,5 +1,5 @@
 -- The instances for which the whole ones of a circuit stand, by their places in the unrolled netlist.
-use Rattle.std.proofs.Common.{◌≡◌, ℕ, suc, Bool, List, [], ◌∷◌, ◌++◌, map, length, ap, sym, ◌∙◌, subst}
+use Rattle.std.proofs.Common.{◌≡◌, ℕ, suc, List, [], ◌∷◌, ◌++◌, map, length, ap, sym, ◌∙◌, subst}
 use Rattle.firm_faults.specs.Settled.{IsInstanceOfWhole}
 use Rattle.firm_faults.specs.StepDown.{HasOneMoreOriginal}
 use Rattle.replaced_instances.proofs.StepInstances.{zip_at_right}
@@ -35,8 +35,8 @@ place_of_original cut blif facts c w y circuit (j, here, is) =
     let original = at_map there_is (whole_places cut) j y is in
     (place.0, (j, place.1), place.2, ap there_is (one_at (whole_places cut) j place.0 original.0 place.1 original.1) ∙ original.2)
 
-module _ {all_soft : Bool} (cut : Cut) (blif : Blif) (facts : List CellFacts) (i : ℕ) (p : NumberedPlace) (m depth : ℕ) (front back : List Place) (c whole_circuit : Circuit)
-    (step : IsChainStep all_soft cut blif facts i p m depth front back c whole_circuit) (phase : ℕ) where
+module _ (cut : Cut) (blif : Blif) (facts : List CellFacts) (i : ℕ) (p : NumberedPlace) (m depth : ℕ) (front back : List Place) (c whole_circuit : Circuit)
+    (step : IsChainStep cut blif facts i p m depth front back c whole_circuit) (phase : ℕ) where
   abbrev olds : List NumberedPlace
   olds = whole_places (before cut i)
 

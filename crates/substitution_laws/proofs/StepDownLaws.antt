@@ -12,7 +12,6 @@ use Rattle.placed_cells.specs.Above.{net_above}
 use Rattle.replaced_cells.proofs.States.{pins_plain}
 use Rattle.replaced_cells.specs.OneMoreWhole.{IsOneMoreWhole}
 use Rattle.replaced_instances.proofs.ChosenOutputs.{only_port, same_port}
-use Rattle.replaced_instances.proofs.Exposures.{chosen_step}
 use Rattle.replaced_instances.proofs.OutputPorts.{pin_at}
 use Rattle.replaced_instances.proofs.StepHides.{remaining_port}
 use Rattle.replaced_instances.proofs.StepInstances.{input_role, pin_of_input}
@@ -76,8 +75,8 @@ named_there named (y ∷ names) (m ∷ nets) (suc j) name net e f is = by_test (
     by_test true on = among_later m.0 (named_nets_from named names nets) net.0 on
     by_test false on = on
 
-module _ {all_soft : Bool} (k : Comparison) (cut : Cut) (blif : Blif) (facts : List CellFacts) (i : ℕ) (p : NumberedPlace) (m depth : ℕ) (front back : List Place) (c whole_circuit : Circuit)
-    (h : IsStepOf all_soft k cut blif facts i p m depth front back c whole_circuit) (phase : ℕ) (lt : phase < length cut.top.rules.phases) where
+module _ (k : Comparison) (cut : Cut) (blif : Blif) (facts : List CellFacts) (i : ℕ) (p : NumberedPlace) (m depth : ℕ) (front back : List Place) (c whole_circuit : Circuit)
+    (h : IsStepOf k cut blif facts i p m depth front back c whole_circuit) (phase : ℕ) (lt : phase < length cut.top.rules.phases) where
   abbrev t : Top
   t = cut.top
 
@@ -188,7 +187,7 @@ module _ {all_soft : Bool} (k : Comparison) (cut : Cut) (blif : Blif) (facts : L
   alone_there : (n l : ℕ) → exposed n ≡ true → IsPlain q.circuit l → is_outside_at t depth p.at (at l) ≡ true → IsTogether q.circuit (phase_at q.rules phase) kept n l → n ≡ l
   alone_there n l e plain stays together =
       let port = plain_port cut blif facts i p m h.step.chosen l (remaining_port cut blif facts i p m h.step.chosen depth front back h.step.split l plain stays) plain in
-      only_port cut blif facts i p m (chosen_step cut blif facts i p m h.step.chosen) phase n port.0 lt e port.1
+      only_port cut blif facts i p m h.step.chosen phase n port.0 lt e port.1
       (subst (λ (x : ℕ). IsTogether q.circuit (phase_at q.rules phase) kept n x) (sym port.2) together)
       ∙ port.2
 
@@ -230,7 +229,7 @@ module _ {all_soft : Bool} (k : Comparison) (cut : Cut) (blif : Blif) (facts : L
         (inner_or_broken (with_circuit k c) q phase whole_circuit at (λ j. j) (fresh_place (before cut i) blif facts q) (is_outside_at t depth p.at) (compared_at_step cut blif facts i p q) (exposed_at cut blif facts i p q) (drive_at facts p q) one setting own r is);
   }
 
-pub steps_go_down : {all_soft : Bool} → StepsGoDown all_soft
+pub steps_go_down : StepsGoDown
 steps_go_down k cut blif facts i p m depth front back c whole_circuit phase setting lt h =
     let q = compared_at cut.top blif p m in
     let own = x cut blif facts i p m depth front back c whole_circuit h.step phase in (

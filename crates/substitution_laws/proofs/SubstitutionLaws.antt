@@ -1,5 +1,5 @@
 -- A checked cell's model stands for it in the cells above.
-use Rattle.std.proofs.Common.{◌⊎◌, inl, inr, Bool}
+use Rattle.std.proofs.Common.{◌⊎◌, inl, inr}
 use Rattle.firm_faults.specs.FirmGround.{IsFoundByRank}
 use Rattle.substitution_laws.proofs.AgreementLaws.{checked_circuits_agree}
 use Rattle.substitution_laws.proofs.FirstLaws.{first_faults_stand_below}
@@ -21,7 +21,7 @@ when_found Next = inr tt
 when_found Apart = inr tt
 when_found Enter = inr tt
 
-pub substitution_holds : {all_soft : Bool} → SubstitutionHolds all_soft
+pub substitution_holds : SubstitutionHolds
 substitution_holds k cut blif facts c h = (
   checked_circuits_agree k cut blif facts c h,
   λ fault f describes first. elim (when_found f.kind) [

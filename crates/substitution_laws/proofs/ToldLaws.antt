@@ -1,5 +1,5 @@
 -- The circuits of a chain, and those of supported cells, are such that it can be told what is known in them.
-use Rattle.std.proofs.Common.{◌≡◌, ℕ, suc, ◌<◌, Bool, not, true, List, length, Option, Some, None, refl, ap, sym, ◌∙◌, inl, inr}
+use Rattle.std.proofs.Common.{◌≡◌, ℕ, suc, ◌<◌, not, true, List, length, Option, Some, None, refl, ap, sym, ◌∙◌, inl, inr}
 use Rattle.std.specs.Prelude.{option_map, slice_get, unwrap_or}
 use Rattle.std.proofs.lemmas.Bool.{cases_Bool, false≢true}
 use Rattle.checked_chain.specs.Holds.{AreEndsShown, IsEndShown}
@@ -49,7 +49,7 @@ ends_before cut n ends hold on = by_end hold.end (ends hold on)
 -- ---- outputs at plain nets
 
 -- the outputs of whole instances are at plain nets in each circuit of the chain
-pub chain_wired : {all_soft : Bool} → (k : Comparison) (cut : Cut) (blif : Blif) (facts : List CellFacts) (c : Circuit) → IsCheckedByFacts all_soft k cut blif facts c
+pub chain_wired : (k : Comparison) (cut : Cut) (blif : Blif) (facts : List CellFacts) (c : Circuit) → IsCheckedByFacts k cut blif facts c
     → (n phase : ℕ) (d : Circuit) → IsCircuitWith (before cut n) blif facts d → phase < length cut.top.rules.phases → IsWired d
 chain_wired k cut blif facts c h n phase d circuit lt =
     determined_wired d (phase_at cut.top.rules phase) (is_observed (with_circuit k d) phase)
@@ -57,7 +57,7 @@ chain_wired k cut blif facts c h n phase d circuit lt =
     (wholes_are_determined k cut blif facts phase n d h.top h.choice lt circuit)
 
 -- and in each supported cell, which has none
-pub cell_wired : {all_soft : Bool} → (cut : Cut) (blif : Blif) (facts : List CellFacts) (cell m : ℕ) → IsChoiceByFacts all_soft cut blif facts → IsSupported cut.top.design blif cut.top.rules cell m
+pub cell_wired : (cut : Cut) (blif : Blif) (facts : List CellFacts) (cell m : ℕ) → IsChoiceByFacts cut blif facts → IsSupported cut.top.design blif cut.top.rules cell m
     → IsWired (comparison_of cut.top.design blif cut.top.rules cell m).circuit
 unfolding flat_circuit_of
 cell_wired cut blif facts cell m h supported =

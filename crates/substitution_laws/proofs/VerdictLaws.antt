@@ -1,5 +1,5 @@
 -- Verdicts of the checked circuit are verdicts of the cell.
-use Rattle.std.proofs.Common.{ℕ, ◌<◌, Bool, List, [], length, ap, sym, subst, arith}
+use Rattle.std.proofs.Common.{ℕ, ◌<◌, List, [], length, ap, sym, subst, arith}
 use Rattle.checked_chain.proofs.SettingLaws.{settings_are_same}
 use Rattle.checked_chain.specs.Holds.{IsOfChain}
 use Rattle.replaced_cells.specs.Agreement.{AgreesWith}
@@ -39,7 +39,7 @@ module _ (k j : Comparison) (agrees : AgreesWith k j) where
 
 -- ---- the checked circuit
 
-module _ {all_soft : Bool} (k : Comparison) (cut : Cut) (blif : Blif) (facts : List CellFacts) (c : Circuit) (budget : ℕ) (h : IsCheckedByFacts all_soft k cut blif facts c) where
+module _ (k : Comparison) (cut : Cut) (blif : Blif) (facts : List CellFacts) (c : Circuit) (budget : ℕ) (h : IsCheckedByFacts k cut blif facts c) where
   abbrev whole : AgreesWith k (with_circuit k c) × FirstStands k cut (with_circuit k c)
   whole = substitution_holds k cut blif facts c h
 
@@ -70,5 +70,5 @@ module _ {all_soft : Bool} (k : Comparison) (cut : Cut) (blif : Blif) (facts : L
   by_verdict Skipped is = absurd is
   by_verdict (Unsupported why) is = absurd is
 
-pub checked_verdicts_hold : {all_soft : Bool} → CheckedVerdictsHold all_soft
+pub checked_verdicts_hold : CheckedVerdictsHold
 checked_verdicts_hold k cut blif facts c budget verdict h is = by_verdict k cut blif facts c budget h verdict is

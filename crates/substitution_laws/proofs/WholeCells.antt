@@ -139,7 +139,7 @@ whole_chosen cut n p on =
         let both = and_parts (cut.choice i) (nat_lt i n) (sym (ap (is_whole (before cut n).choice) is) ∙ whole) in
         (i, record { place = subst (λ (k : ℕ). At (numbered_places cut.top) k p) (sym at ∙ is) there; chosen = both.0 })
 
-module _ {all_soft : Bool} (cut : Cut) (blif : Blif) (facts : List CellFacts) (h : IsChoiceByFacts all_soft cut blif facts) (i : ℕ) (p : NumberedPlace) (m : ℕ) (step : IsStep all_soft cut blif facts i p m)
+module _ (cut : Cut) (blif : Blif) (facts : List CellFacts) (h : IsChoiceByFacts cut blif facts) (i : ℕ) (p : NumberedPlace) (m : ℕ) (step : IsStep cut blif facts i p m)
     (supported : IsSupported cut.top.design blif cut.top.rules p.at.cell m) where
   abbrev t : Top
   t = cut.top
@@ -239,14 +239,14 @@ module _ {all_soft : Bool} (cut : Cut) (blif : Blif) (facts : List CellFacts) (h
       pub quiet : AreQuietInputs q phase seen at
       quiet x input e = (not_inside x input e, all_inputs q phase (no_holds cut blif facts i p m step) (given phase) (unconstrained x input e))
 
-pub wholes_stand_for_cells : {all_soft : Bool} → WholesStandForCells all_soft
+pub wholes_stand_for_cells : WholesStandForCells
 wholes_stand_for_cells k cut blif facts i p m phase n c w same h step supported lt circuit on whole =
     whole_places_stand_for_cells (before cut n) blif facts p m phase c (is_observed (with_circuit k c) phase) (net_above cut.top p.at) w step.paired whole lt
     (ports_at cut blif facts h i p m step supported)
     (plain_outputs cut blif facts h i p m step supported n c circuit w on whole)
     (quiet cut blif facts h i p m step supported n c circuit w on whole k same phase lt)
 
-pub wholes_are_determined : {all_soft : Bool} → WholesAreDetermined all_soft
+pub wholes_are_determined : WholesAreDetermined
 wholes_are_determined k cut blif facts phase n c same h lt circuit w on =
     let from = zip_right (IsWholeAt (before cut n) blif facts) (whole_places (before cut n)) c.wholes w circuit.wholes on in
     let p = from.0 in

@@ -12,14 +12,14 @@ use Rattle.placed_cells.proofs.ListLaws.{zip_left}
 use Rattle.placed_cells.specs.Above.{net_above}
 use Rattle.replaced_cells.specs.OneMoreWhole.{HasCellPins, HasSameSignal}
 use Rattle.replaced_instances.proofs.ChosenSteps.{chosen_step_is_placed, exposed_true, exposure}
-use Rattle.replaced_instances.proofs.Exposures.{AreExposed, chosen_step}
+use Rattle.replaced_instances.proofs.Exposures.{AreExposed}
 use Rattle.replaced_instances.proofs.OutputPorts.{count_below_port}
 use Rattle.replaced_instances.proofs.PinOutputs.{output_pin, pin_output, settled}
 use Rattle.replaced_instances.proofs.StepHides.{remaining_port}
 use Rattle.replaced_instances.proofs.StepInstances.{zip_at_left}
 use Rattle.replaced_instances.proofs.StepOutputs.{one_more_place, outputs_behind}
 use Rattle.replaced_instances.proofs.StepPorts.{output_plain, plain_output, port_of_output, rising, signal_of_output}
-use Rattle.replaced_instances.specs.Steps.{IsChosenStep, compared_at, drive_at, exposed_at, fresh_place, is_outside_at, output_place}
+use Rattle.replaced_instances.specs.Steps.{IsStep, compared_at, drive_at, exposed_at, fresh_place, is_outside_at, output_place}
 use Rattle.substitution_laws.proofs.WholeCells.{whole_chosen, wholes_are_determined, wholes_stand_for_cells}
 use Rattle.substitution_laws.proofs.ChosenLaws.{chosen_instances_are_steps}
 use Rattle.substitution_laws.specs.Pins.{IsChainStep, StepHasCellPins, StepHasOneMoreWhole}
@@ -173,8 +173,8 @@ zip_both R S T (x ∷ xs) (y ∷ ys) (z ∷ zs) t h g =
 
 -- ---- a step
 
-module _ {all_soft : Bool} (cut : Cut) (blif : Blif) (facts : List CellFacts) (i : ℕ) (p : NumberedPlace) (m depth : ℕ) (front back : List Place) (c whole_circuit : Circuit)
-    (step : IsChainStep all_soft cut blif facts i p m depth front back c whole_circuit) (phase : ℕ) where
+module _ (cut : Cut) (blif : Blif) (facts : List CellFacts) (i : ℕ) (p : NumberedPlace) (m depth : ℕ) (front back : List Place) (c whole_circuit : Circuit)
+    (step : IsChainStep cut blif facts i p m depth front back c whole_circuit) (phase : ℕ) where
   abbrev t : Top
   t = cut.top
 
@@ -275,8 +275,8 @@ module _ {all_soft : Bool} (cut : Cut) (blif : Blif) (facts : List CellFacts) (i
   abbrev drive : ℕ → ℕ
   drive n = drive_at facts p (compared_at cut.top blif p m) n
 
-  pub any_step : IsChosenStep cut blif facts i p m
-  any_step = chosen_step cut blif facts i p m step.chosen
+  pub any_step : IsStep cut blif facts i p m
+  any_step = step.chosen
 
   pub some_phase : 0 < length cut.top.rules.phases
   some_phase = step.choice.read.valid.some_phase
@@ -384,10 +384,10 @@ module _ {all_soft : Bool} (cut : Cut) (blif : Blif) (facts : List CellFacts) (i
       assigned = λ w reading on. (wholes_are_determined k cut blif facts phase (suc i) whole_circuit same step.choice lt step.whole w on).assigned reading;
     }
 
-pub step_has_cell_pins : {all_soft : Bool} → StepHasCellPins all_soft
+pub step_has_cell_pins : StepHasCellPins
 step_has_cell_pins k cut blif facts i p m depth front back c whole_circuit phase same lt step = has_cell_pins cut blif facts i p m depth front back c whole_circuit step phase k same lt
 
-pub step_has_one_more_whole : {all_soft : Bool} → StepHasOneMoreWhole all_soft
+pub step_has_one_more_whole : StepHasOneMoreWhole
 step_has_one_more_whole k cut blif facts i p m depth front back c whole_circuit phase same lt step = (
   x cut blif facts i p m depth front back c whole_circuit step phase,
   x_is cut blif facts i p m depth front back c whole_circuit step phase,

@@ -239,7 +239,7 @@ cuts_have_ranges cut blif facts c h circuit = record {
     by_place w on p listed whole (suc i) place e =
         let cell = h.cells p listed in whole_in_range cut blif facts c h circuit i p place cell.0 cell.1 listed cell.2 w on whole
 
-pub circuits_have_ranges : {all_soft : Bool} → CircuitsHaveRanges all_soft
+pub circuits_have_ranges : CircuitsHaveRanges
 circuits_have_ranges cut blif facts n c h flat ends circuit =
     cuts_have_ranges (before cut n) blif facts c
     (record {

@@ -1,5 +1,5 @@
 -- The flat circuit of a cell and its checked one: nothing is wrong in the one exactly where nothing is wrong in the other.
-use Rattle.std.specs.Prelude.{◌≡◌, ℕ, ◌<◌, Bool, true, List, length}
+use Rattle.std.specs.Prelude.{◌≡◌, ℕ, ◌<◌, List, length}
 use Rattle.replaced_cells.specs.Agreement.{AgreesWith, IsAlwaysSolved}
 use Rattle.substitution_laws.specs.Chosen.{IsChoiceByFacts}
 use Rattle.vrt_model.specs.Checked.{IsCircuitWith, before, top_of, with_circuit}
@@ -17,8 +17,8 @@ use Rattle.vrt_model.specs.declared.whole.CellFacts.{CellFacts}
 
 -- a circuit with the instances of a choice by facts whole, of a comparison whose own circuit is the flat one, well formed and without
 -- cycles
-pub record IsCheckedByFacts (all_soft : Bool) (k : Comparison) (cut : Cut) (blif : Blif) (facts : List CellFacts) (c : Circuit) : Type 0 where
-  pub choice : IsChoiceByFacts all_soft cut blif facts
+pub record IsCheckedByFacts (k : Comparison) (cut : Cut) (blif : Blif) (facts : List CellFacts) (c : Circuit) : Type 0 where
+  pub choice : IsChoiceByFacts cut blif facts
   pub top : cut.top ≡ top_of k
   pub flat : k.circuit ≡ flat_circuit_of cut.top
   pub groups : k.groups ≡ groups_of k.circuit k.model
@@ -26,19 +26,15 @@ pub record IsCheckedByFacts (all_soft : Bool) (k : Comparison) (cut : Cut) (blif
   pub acyclic : (phase : ℕ) → phase < length cut.top.rules.phases → IsAcyclic (HasArc (flat_circuit_of cut.top) (phase_at cut.top.rules phase))
   pub circuit : IsCircuitWith cut blif facts c
 
--- so it is where facts tell no drives
-abbrev pub IsCheckedSoftly : Comparison → Cut → Blif → List CellFacts → Circuit → Type 0
-IsCheckedSoftly k cut blif facts c = IsCheckedByFacts true k cut blif facts c
-
 -- The law: each circuit of the chain has exactly one solution in each phase at each valuation.
-abbrev pub ChainIsAlwaysSolved : Bool → Type 0
-ChainIsAlwaysSolved all_soft =
+abbrev pub ChainIsAlwaysSolved : Type 0
+ChainIsAlwaysSolved =
     (k : Comparison) (cut : Cut) (blif : Blif) (facts : List CellFacts) (c : Circuit) (n : ℕ) (d : Circuit)
-    → IsCheckedByFacts all_soft k cut blif facts c → n < length (all_places cut.top) → IsCircuitWith (before cut n) blif facts d
+    → IsCheckedByFacts k cut blif facts c → n < length (all_places cut.top) → IsCircuitWith (before cut n) blif facts d
     → IsAlwaysSolved (with_circuit k d)
 
 -- The law: so nothing is wrong in the flat circuit exactly where nothing is wrong in the checked one.
-abbrev pub CheckedCircuitsAgree : Bool → Type 0
-CheckedCircuitsAgree all_soft =
+abbrev pub CheckedCircuitsAgree : Type 0
+CheckedCircuitsAgree =
     (k : Comparison) (cut : Cut) (blif : Blif) (facts : List CellFacts) (c : Circuit)
-    → IsCheckedByFacts all_soft k cut blif facts c → AgreesWith k (with_circuit k c)
+    → IsCheckedByFacts k cut blif facts c → AgreesWith k (with_circuit k c)

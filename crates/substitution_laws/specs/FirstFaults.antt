@@ -16,17 +16,17 @@ use Rattle.vrt_model.specs.declared.verdict.FaultAt.{FaultAt}
 use Rattle.vrt_model.specs.declared.whole.CellFacts.{CellFacts}
 
 -- The law: in each circuit of the chain the order of faults rests on what the law of firm ground asks.
-abbrev pub ChainCircuitsAreOrdered : Bool → Type 0
-ChainCircuitsAreOrdered all_soft =
+abbrev pub ChainCircuitsAreOrdered : Type 0
+ChainCircuitsAreOrdered =
     (k : Comparison) (cut : Cut) (blif : Blif) (facts : List CellFacts) (c : Circuit) (n : ℕ) (d : Circuit) (phase : ℕ) (setting : Setting)
-    → IsCheckedByFacts all_soft k cut blif facts c → IsCircuitWith (before cut n) blif facts d → phase < length cut.top.rules.phases
+    → IsCheckedByFacts k cut blif facts c → IsCircuitWith (before cut n) blif facts d → phase < length cut.top.rules.phases
     → (known : ℕ → Bool) × IsOrderedAt (with_circuit k d) (whole_instances (before cut n)) phase setting known
 
 -- The law: the first fault of the checked circuit, if it is a fight, a float or a broken constraint, is one of the flat circuit, at the
 -- same place and with the same words.
-abbrev pub FirstFaultsStandBelow : Bool → Type 0
-FirstFaultsStandBelow all_soft =
+abbrev pub FirstFaultsStandBelow : Type 0
+FirstFaultsStandBelow =
     (k : Comparison) (cut : Cut) (blif : Blif) (facts : List CellFacts) (c : Circuit) (fault : FaultAt) (f : Finding)
-    → IsCheckedByFacts all_soft k cut blif facts c → IsFoundByRank f.kind
+    → IsCheckedByFacts k cut blif facts c → IsFoundByRank f.kind
     → Describes (with_circuit k c) fault f → IsFirstInPhase (with_circuit k c) f
     → (flat : Finding) × Describes k fault flat × IsFinding k flat × IsSamePlace cut fault.kind flat.at f.at

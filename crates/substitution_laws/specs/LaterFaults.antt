@@ -1,5 +1,5 @@
 -- The first fault of the checked circuit, where it is found once all nets are solved, stands in the flat circuit.
-use Rattle.std.specs.Prelude.{Bool, List}
+use Rattle.std.specs.Prelude.{List}
 use Rattle.substitution_laws.specs.Agreement.{IsCheckedByFacts}
 use Rattle.vrt_model.specs.Checked.{with_circuit}
 use Rattle.vrt_model.specs.CheckedVerdicts.{IsSamePlace}
@@ -28,9 +28,9 @@ IsFoundLater Enter = Unit {0}
 
 -- The law: the first fault of the checked circuit, if it is one of these, is one of the flat circuit, at the same place and with the same
 -- words.
-abbrev pub LaterFaultsStandBelow : Bool → Type 0
-LaterFaultsStandBelow all_soft =
+abbrev pub LaterFaultsStandBelow : Type 0
+LaterFaultsStandBelow =
     (k : Comparison) (cut : Cut) (blif : Blif) (facts : List CellFacts) (c : Circuit) (fault : FaultAt) (f : Finding)
-    → IsCheckedByFacts all_soft k cut blif facts c → IsFoundLater f.kind
+    → IsCheckedByFacts k cut blif facts c → IsFoundLater f.kind
     → Describes (with_circuit k c) fault f → IsFirstInPhase (with_circuit k c) f
     → (flat : Finding) × Describes k fault flat × IsFinding k flat × IsSamePlace cut fault.kind flat.at f.at

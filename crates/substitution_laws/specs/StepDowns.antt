@@ -1,5 +1,5 @@
 -- One step of the chain, as the law of firm ground asks.
-use Rattle.std.specs.Prelude.{ℕ, suc, ◌<◌, Bool, List, length, map}
+use Rattle.std.specs.Prelude.{ℕ, suc, ◌<◌, List, length, map}
 use Rattle.firm_faults.specs.StepDown.{HasOneMoreOriginal, IsStepDown}
 use Rattle.placed_cells.specs.Above.{net_above}
 use Rattle.replaced_instances.specs.Steps.{compared_at, compared_at_step, drive_at, exposed_at, fresh_place, is_outside_at}
@@ -22,10 +22,10 @@ whole_instances cut = map (λ (p : NumberedPlace). flat_instance p.at) (whole_pl
 
 -- The law: the step is one down, from the circuit in which the instance is whole to that in which its cell stands, and this instance is
 -- the one that the further whole one stands for.
-abbrev pub StepsGoDown : Bool → Type 0
-StepsGoDown all_soft =
+abbrev pub StepsGoDown : Type 0
+StepsGoDown =
     (k : Comparison) (cut : Cut) (blif : Blif) (facts : List CellFacts) (i : ℕ) (p : NumberedPlace) (m depth : ℕ) (front back : List Place) (c whole_circuit : Circuit) (phase : ℕ) (setting : Setting)
-    → phase < length cut.top.rules.phases → IsStepOf all_soft k cut blif facts i p m depth front back c whole_circuit
+    → phase < length cut.top.rules.phases → IsStepOf k cut blif facts i p m depth front back c whole_circuit
     → let q = compared_at cut.top blif p m in
     (x : Whole)
     × IsStepDown (with_circuit k c) phase setting q.circuit whole_circuit (net_above cut.top p.at) (λ j. j) (fresh_place (before cut i) blif facts q)

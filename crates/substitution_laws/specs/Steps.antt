@@ -1,5 +1,5 @@
 -- One step of the chain of circuits: what the laws of one more whole instance ask of it holds.
-use Rattle.std.specs.Prelude.{ℕ, suc, ◌<◌, Bool, List, length}
+use Rattle.std.specs.Prelude.{ℕ, suc, ◌<◌, List, length}
 use Rattle.checked_chain.specs.Holds.{IsOfChain}
 use Rattle.placed_cells.specs.Above.{net_above}
 use Rattle.replaced_cells.specs.OneMoreWhole.{IsOneMoreWhole}
@@ -16,17 +16,17 @@ use Rattle.vrt_model.specs.declared.circuit.Circuit.{Circuit}
 use Rattle.vrt_model.specs.declared.whole.CellFacts.{CellFacts}
 
 -- both circuits are of the chain of k, whose flat circuit is well formed
-pub record IsStepOf (all_soft : Bool) (k : Comparison) (cut : Cut) (blif : Blif) (facts : List CellFacts) (i : ℕ) (p : NumberedPlace) (m depth : ℕ) (front back : List Place) (c whole_circuit : Circuit) : Type 0 where
-  pub step : IsChainStep all_soft cut blif facts i p m depth front back c whole_circuit
+pub record IsStepOf (k : Comparison) (cut : Cut) (blif : Blif) (facts : List CellFacts) (i : ℕ) (p : NumberedPlace) (m depth : ℕ) (front back : List Place) (c whole_circuit : Circuit) : Type 0 where
+  pub step : IsChainStep cut blif facts i p m depth front back c whole_circuit
   pub flat : IsCircuit (flat_circuit_of cut.top)
   pub first : IsOfChain k blif facts (before cut i) c
   pub next : IsOfChain k blif facts (before cut (suc i)) whole_circuit
 
 -- The law: the step leaves one more instance whole, as the laws of what both circuits have in common ask.
-abbrev pub StepsAreOneMoreWhole : Bool → Type 0
-StepsAreOneMoreWhole all_soft =
+abbrev pub StepsAreOneMoreWhole : Type 0
+StepsAreOneMoreWhole =
     (k : Comparison) (cut : Cut) (blif : Blif) (facts : List CellFacts) (i : ℕ) (p : NumberedPlace) (m depth : ℕ) (front back : List Place) (c whole_circuit : Circuit) (phase : ℕ)
-    → phase < length cut.top.rules.phases → IsStepOf all_soft k cut blif facts i p m depth front back c whole_circuit
+    → phase < length cut.top.rules.phases → IsStepOf k cut blif facts i p m depth front back c whole_circuit
     → let q = compared_at cut.top blif p m in
     IsOneMoreWhole (with_circuit k c) q phase whole_circuit (net_above cut.top p.at) (λ j. j) (fresh_place (before cut i) blif facts q)
     (is_outside_at cut.top depth p.at) (compared_at_step cut blif facts i p q) (exposed_at cut blif facts i p q) (drive_at facts p q)

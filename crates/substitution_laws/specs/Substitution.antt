@@ -1,5 +1,5 @@
 -- A checked cell's model stands for it in the cells above.
-use Rattle.std.specs.Prelude.{Bool, List}
+use Rattle.std.specs.Prelude.{List}
 use Rattle.replaced_cells.specs.Agreement.{AgreesWith}
 use Rattle.substitution_laws.specs.Agreement.{IsCheckedByFacts}
 use Rattle.vrt_model.specs.Checked.{with_circuit}
@@ -21,8 +21,8 @@ FirstStands k cut j =
 
 -- The law: nothing is wrong in the flat circuit exactly where nothing is wrong in the checked one, and the first fault of this stands in
 -- that.
-abbrev pub SubstitutionHolds : Bool → Type 0
-SubstitutionHolds all_soft =
+abbrev pub SubstitutionHolds : Type 0
+SubstitutionHolds =
     (k : Comparison) (cut : Cut) (blif : Blif) (facts : List CellFacts) (c : Circuit)
-    → IsCheckedByFacts all_soft k cut blif facts c
+    → IsCheckedByFacts k cut blif facts c
     → AgreesWith k (with_circuit k c) × FirstStands k cut (with_circuit k c)

@@ -1,5 +1,5 @@
 -- A verdict of the checked circuit of a cell is one of the cell.
-use Rattle.std.specs.Prelude.{ℕ, ◌+◌, ◌≤◌, Bool, List, length, sum_by}
+use Rattle.std.specs.Prelude.{ℕ, ◌+◌, ◌≤◌, List, length, sum_by}
 use Rattle.checked_chain.specs.Holds.{IsOfChain}
 use Rattle.substitution_laws.specs.Agreement.{IsCheckedByFacts}
 use Rattle.vrt_model.specs.Budget.{constraints_size, enough_nodes, model_size, work, work_of}
@@ -30,8 +30,8 @@ ChainHasNoMoreWork =
 
 -- The law: what the checked circuit is found to be, the cell is: equal, vacuous in a phase, or too large for the budget, with each phase
 -- before it equal; and its first fault is the cell's, at the same place and with the same words.
-abbrev pub CheckedVerdictsHold : Bool → Type 0
-CheckedVerdictsHold all_soft =
+abbrev pub CheckedVerdictsHold : Type 0
+CheckedVerdictsHold =
     (k : Comparison) (cut : Cut) (blif : Blif) (facts : List CellFacts) (c : Circuit) (budget : ℕ) (verdict : Verdict)
-    → IsCheckedByFacts all_soft k cut blif facts c
+    → IsCheckedByFacts k cut blif facts c
     → HasVerdict (with_circuit k c) blif budget verdict → HasCheckedVerdict k blif facts budget verdict

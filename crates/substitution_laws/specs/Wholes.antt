@@ -1,5 +1,5 @@
 -- Whole instances of the circuits between the flat circuit of a cell and its checked one.
-use Rattle.std.specs.Prelude.{◌≡◌, ℕ, ◌<◌, Bool, List, length}
+use Rattle.std.specs.Prelude.{◌≡◌, ℕ, ◌<◌, List, length}
 use Rattle.checked_chain.specs.Holds.{AreEndsShown}
 use Rattle.formed_cells.specs.Formed.{IsFormed}
 use Rattle.known_nets.specs.Wired.{IsWired}
@@ -24,18 +24,18 @@ use Rattle.channel_parts.specs.OneSolution.{AreDetermined}
 use Rattle.whole_ranks.specs.WholeCells.{StandsFor}
 
 -- The law: a whole instance of a circuit of the chain stands for its cell.
-abbrev pub WholesStandForCells : Bool → Type 0
-WholesStandForCells all_soft =
+abbrev pub WholesStandForCells : Type 0
+WholesStandForCells =
     (k : Comparison) (cut : Cut) (blif : Blif) (facts : List CellFacts) (i : ℕ) (p : NumberedPlace) (m phase n : ℕ) (c : Circuit) (w : Whole)
-    → cut.top ≡ top_of k → IsChoiceByFacts all_soft cut blif facts → IsStep all_soft cut blif facts i p m → IsSupported cut.top.design blif cut.top.rules p.at.cell m
+    → cut.top ≡ top_of k → IsChoiceByFacts cut blif facts → IsStep cut blif facts i p m → IsSupported cut.top.design blif cut.top.rules p.at.cell m
     → phase < length cut.top.rules.phases → IsCircuitWith (before cut n) blif facts c → Among c.wholes w → IsWholeAt (before cut n) blif facts p w
     → StandsFor (compared_at cut.top blif p m) phase c (is_observed (with_circuit k c) phase) (net_above cut.top p.at) w
 
 -- The law: so each whole instance is determined.
-abbrev pub WholesAreDetermined : Bool → Type 0
-WholesAreDetermined all_soft =
+abbrev pub WholesAreDetermined : Type 0
+WholesAreDetermined =
     (k : Comparison) (cut : Cut) (blif : Blif) (facts : List CellFacts) (phase n : ℕ) (c : Circuit)
-    → cut.top ≡ top_of k → IsChoiceByFacts all_soft cut blif facts → phase < length cut.top.rules.phases → IsCircuitWith (before cut n) blif facts c
+    → cut.top ≡ top_of k → IsChoiceByFacts cut blif facts → phase < length cut.top.rules.phases → IsCircuitWith (before cut n) blif facts c
     → AreDetermined c (phase_at cut.top.rules phase) (is_observed (with_circuit k c) phase)
 
 -- a flat circuit that is well formed, of which instances are left whole: each of a cell that is well formed with its model, what is told of
@@ -53,10 +53,10 @@ abbrev pub CutsHaveRanges : Type 0
 CutsHaveRanges = (cut : Cut) (blif : Blif) (facts : List CellFacts) (c : Circuit) → IsFormedCut cut blif facts → IsCircuitWith cut blif facts c → HasRanges c
 
 -- The law: so are those of a circuit of the chain, where no end of a hold names an instance inside a whole one.
-abbrev pub CircuitsHaveRanges : Bool → Type 0
-CircuitsHaveRanges all_soft =
+abbrev pub CircuitsHaveRanges : Type 0
+CircuitsHaveRanges =
     (cut : Cut) (blif : Blif) (facts : List CellFacts) (n : ℕ) (c : Circuit)
-    → IsChoiceByFacts all_soft cut blif facts → IsCircuit (flat_circuit_of cut.top) → AreEndsShown (before cut n) → IsCircuitWith (before cut n) blif facts c → HasRanges c
+    → IsChoiceByFacts cut blif facts → IsCircuit (flat_circuit_of cut.top) → AreEndsShown (before cut n) → IsCircuitWith (before cut n) blif facts c → HasRanges c
 
 -- The law: so are those of the circuit of instances that are tried, whatever is told of drives, and their outputs are at plain nets.
 abbrev pub TrialsAreWired : Type 0

@@ -1,14 +1,13 @@
 //! The flat circuit and the checked one.
 
-ghost use Rattle.std.specs.Prelude.{Bool};
 ghost use Rattle.substitution_laws.specs.Agreement.{ChainIsAlwaysSolved, CheckedCircuitsAgree};
 
 /// Each circuit between the two has exactly one solution in each phase at each valuation.
 pub fn chain_is_always_solved()
-    ensures { (all_soft : Bool) → ChainIsAlwaysSolved all_soft }
+    ensures { ChainIsAlwaysSolved }
 {}
 
 /// The same valuations meet the constraints, and nothing is wrong in the one exactly where nothing is wrong in the other.
 pub fn checked_circuits_agree()
-    ensures { (all_soft : Bool) → CheckedCircuitsAgree all_soft }
+    ensures { CheckedCircuitsAgree }
 {}

@@ -1,9 +1,8 @@
 //! Firm ground.
 
-ghost use Rattle.std.specs.Prelude.{Bool};
 ghost use Rattle.substitution_laws.specs.FirmDown.{FirmGroundReachesFlat};
 
 /// What is on firm ground in a circuit of the chain is on firm ground in the flat one, at the same net or instance.
 pub fn firm_ground_reaches_flat()
-    ensures { (all_soft : Bool) → FirmGroundReachesFlat all_soft }
+    ensures { FirmGroundReachesFlat }
 {}

@@ -16,7 +16,7 @@ mod verdicts;
 mod wholes;
 
 pub use agreement::{chain_is_always_solved, checked_circuits_agree};
-pub use chosen::{chosen_cells_are_logic, chosen_instances_are_steps, chosen_steps_are_at_gates};
+pub use chosen::{chosen_cells_are_logic, chosen_instances_are_steps};
 pub use downs::steps_go_down;
 pub use ends::chosen_ends_are_shown;
 pub use firm::firm_ground_reaches_flat;

@@ -1,6 +1,5 @@
 //! Verdicts of the checked circuit.
 
-ghost use Rattle.std.specs.Prelude.{Bool};
 ghost use Rattle.substitution_laws.specs.Verdicts.{ChainHasNoMoreWork, ChainNeedsNoMore, CheckedVerdictsHold};
 
 /// A budget that is always enough for the flat circuit is enough for each circuit of its chain.
@@ -15,5 +14,5 @@ pub fn chain_has_no_more_work()
 
 /// What the checked circuit is found to be, the cell is; its first fault is the cell's, at the same place and with the same words.
 pub fn checked_verdicts_hold()
-    ensures { (all_soft : Bool) → CheckedVerdictsHold all_soft }
+    ensures { CheckedVerdictsHold }
 {}

@@ -16,7 +16,7 @@ use Rattle.replaced_instances.proofs.StepInstances.{input_role, port_of_net}
 use Rattle.replaced_instances.proofs.StepLeft.{outside_is}
 use Rattle.replaced_instances.proofs.StepOutputs.{one_more_place}
 use Rattle.replaced_instances.proofs.StepPorts.{none, output_of_port, pins_shifted, plain_port, port_listed, tied}
-use Rattle.replaced_instances.specs.Steps.{IsChosenStep, compared_at, fresh_place, is_outside_at}
+use Rattle.replaced_instances.specs.Steps.{IsStep, compared_at, fresh_place, is_outside_at}
 use Rattle.vrt_model.proofs.Filtered.{among_kept, device_among, filter_among}
 use Rattle.vrt_model.proofs.Lists.{at_there, map_among}
 use Rattle.vrt_model.proofs.Members.{all_among, among_left, among_map, among_right, flat_map_among}
@@ -57,7 +57,7 @@ use Rattle.trial_cycles.proofs.CellPorts.{clock_in, clock_role, is_input, signal
 use Rattle.trial_cycles.proofs.WithoutLinks.{gate_in, gate_out, together_in, together_out}
 use Rattle.vrt_model.specs.State.{OutputPin, output_pins}
 
-module _ (cut : Cut) (blif : Blif) (facts : List CellFacts) (i : ℕ) (p : NumberedPlace) (m : ℕ) (step : IsChosenStep cut blif facts i p m)
+module _ (cut : Cut) (blif : Blif) (facts : List CellFacts) (i : ℕ) (p : NumberedPlace) (m : ℕ) (step : IsStep cut blif facts i p m)
     (supported : IsSupported cut.top.design blif cut.top.rules p.at.cell m) (formed : IsFormed (compared_at cut.top blif p m))
     (depth : ℕ) (front back : List Place) (split : IsSplit cut.top (suc i) p.at depth front back)
     (c whole_circuit : Circuit) (circuit : IsCircuitWith (before cut i) blif facts c) (after : IsCircuitWith (before cut (suc i)) blif facts whole_circuit)
@@ -66,7 +66,7 @@ module _ (cut : Cut) (blif : Blif) (facts : List CellFacts) (i : ℕ) (p : Numbe
     (fresh_place (before cut i) blif facts (compared_at cut.top blif p m)) (is_outside_at cut.top depth p.at) compared exposed drive)
     (clocks : (pin : Pin) (clock : ClockRef) → Among (pins_of (compared_at cut.top blif p m) p.at) pin → pin.port.role ≡ Clock clock
     → IsKnown whole_circuit (phase_at cut.top.rules phase) pin.net.0 (clock_bit (phase_at cut.top.rules phase) clock))
-    (steps : (o : NumberedPlace) → Among (whole_places (before cut i)) o → (j : ℕ) × (l : ℕ) × IsChosenStep cut blif facts j o l) where
+    (steps : (o : NumberedPlace) → Among (whole_places (before cut i)) o → (j : ℕ) × (l : ℕ) × IsStep cut blif facts j o l) where
   abbrev t : Top
   t = cut.top
 
@@ -306,9 +306,9 @@ module _ (cut : Cut) (blif : Blif) (facts : List CellFacts) (i : ℕ) (p : Numbe
       let found = steps o on in
       let model : Paired → ℕ = λ x. elim x [ Model j ↦ j | Skipped ↦ 0 | Missing ↦ 0 ] in
       let same : found.1 ≡ l = ap model (sym found.2.paired ∙ paired) in
-      by_step found.0 (subst (λ (x : ℕ). IsChosenStep cut blif facts found.0 o x) same found.2)
+      by_step found.0 (subst (λ (x : ℕ). IsStep cut blif facts found.0 o x) same found.2)
     where
-      by_step : (j : ℕ) → IsChosenStep cut blif facts j o l → (pin : OutputPin) × Among (output_pins c) pin × (pin.pin.net.0 ≡ out.net.0)
+      by_step : (j : ℕ) → IsStep cut blif facts j o l → (pin : OutputPin) × Among (output_pins c) pin × (pin.pin.net.0 ≡ out.net.0)
       by_step j other =
           let above : ℕ → ℕ = λ x. net_above cut.top o.at x in
           let k = compared_at t blif o l in

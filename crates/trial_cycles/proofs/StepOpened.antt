@@ -11,7 +11,7 @@ use Rattle.replaced_instances.proofs.PinOutputs.{output_pin}
 use Rattle.replaced_instances.proofs.StepHides.{output_observed, remaining_port}
 use Rattle.replaced_instances.proofs.StepOutputs.{outputs_behind}
 use Rattle.replaced_instances.proofs.StepPorts.{no_holds, plain_output, plain_port, told}
-use Rattle.replaced_instances.specs.Steps.{IsChosenStep, compared_at, compared_at_step, drive_at, exposed_at, fresh_place, is_outside_at}
+use Rattle.replaced_instances.specs.Steps.{IsStep, compared_at, compared_at_step, drive_at, exposed_at, fresh_place, is_outside_at}
 use Rattle.vrt_model.proofs.Filtered.{filter_among}
 use Rattle.vrt_model.proofs.Lists.{at_back}
 use Rattle.vrt_model.specs.Checked.{IsCircuitWith, before}
@@ -39,7 +39,7 @@ use Rattle.vrt_model.specs.Facts.{IsAloneInside}
 use Rattle.vrt_model.specs.Reading.{kept}
 use Rattle.whole_solutions.specs.KnownInside.{AreExposedUnsettled}
 
-module _ (cut : Cut) (blif : Blif) (facts : List CellFacts) (i : ℕ) (p : NumberedPlace) (m : ℕ) (step : IsChosenStep cut blif facts i p m)
+module _ (cut : Cut) (blif : Blif) (facts : List CellFacts) (i : ℕ) (p : NumberedPlace) (m : ℕ) (step : IsStep cut blif facts i p m)
     (formed : IsFormed (compared_at cut.top blif p m)) (depth : ℕ) (front back : List Place) (split : IsSplit cut.top (suc i) p.at depth front back)
     (c whole_circuit : Circuit) (circuit : IsCircuitWith (before cut i) blif facts c) (after : IsCircuitWith (before cut (suc i)) blif facts whole_circuit)
     (wired : IsWired c) (whole_wired : IsWired whole_circuit) (phase : ℕ) (lt : phase < length cut.top.rules.phases) where

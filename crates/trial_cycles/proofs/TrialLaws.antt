@@ -18,15 +18,15 @@ use Rattle.placed_cells.proofs.CutLaws.{pin_among}
 use Rattle.placed_cells.proofs.SplitLaws.{places_in_stand_together}
 use Rattle.replaced_instances.proofs.StepOutputs.{one_more_place}
 use Rattle.replaced_instances.proofs.StepPorts.{place_there}
-use Rattle.replaced_instances.specs.Steps.{AreAllowed, IsAllowedInstance, IsChosenStep, compared_at, compared_at_step, drive_at, exposed_at}
+use Rattle.replaced_instances.specs.Steps.{AreAllowed, IsAllowedInstance, IsStep, compared_at, compared_at_step, drive_at, exposed_at}
 use Rattle.whole_circuits.proofs.ArcLaws.{acyclic_is}
 use Rattle.substitution_laws.proofs.WholeCells.{whole_chosen}
 use Rattle.substitution_laws.proofs.WholeRanges.{trials_are_wired}
-use Rattle.substitution_laws.proofs.ChosenLaws.{soft_is_trial, tried_steps_are_chosen}
+use Rattle.substitution_laws.proofs.ChosenLaws.{tried_steps_are_chosen}
 use Rattle.substitution_laws.specs.Chosen.{IsTrial}
 use Rattle.trial_cycles.proofs.StepArcs.{step_goes}
 use Rattle.trial_cycles.proofs.StepOpened.{step_is_opened}
-use Rattle.trial_cycles.specs.TrialCycles.{AllowedAreChosen, AnyAllowedAreChosen, AnyStepKeepsAcyclic, AnyTrialsAreAcyclic, AnyTriedMayBeWhole, CarriedClocksAreKnown, FlatTrialsAreAcyclic, IsAcyclicTrial, IsTrialAtClocks, IsTrialInPhase, IsTrialWithoutCycles, StepKeepsAcyclic, TrialsAreAcyclic, TriedMayBeWhole}
+use Rattle.trial_cycles.specs.TrialCycles.{AnyAllowedAreChosen, AnyStepKeepsAcyclic, AnyTrialsAreAcyclic, AnyTriedMayBeWhole, CarriedClocksAreKnown, IsAcyclicTrial, IsTrialInPhase}
 use Rattle.vrt_model.proofs.Filtered.{among_kept, filter_among}
 use Rattle.vrt_model.proofs.Lists.{at_there}
 use Rattle.vrt_model.proofs.Members.{among_left, among_right}
@@ -97,7 +97,7 @@ module _ (cut : Cut) (blif : Blif) (facts : List CellFacts) (c : Circuit) (phase
   abbrev IsFree : Cut → Type 0
   IsFree x = IsAcyclic (HasArcWith x blif facts phase)
 
-  steps : (n : ℕ) (o : NumberedPlace) → Among (whole_places (before cut n)) o → (j : ℕ) × (l : ℕ) × IsChosenStep cut blif facts j o l
+  steps : (n : ℕ) (o : NumberedPlace) → Among (whole_places (before cut n)) o → (j : ℕ) × (l : ℕ) × IsStep cut blif facts j o l
   steps n o on =
       let is = whole_chosen cut n o on in
       let step = tried_steps_are_chosen cut blif facts is.0 o h.trial is.1.place is.1.chosen in
@@ -261,28 +261,3 @@ any_allowed_are_chosen cut blif facts c choice h i p place = (
       (let may : MayBeWhole (before cut i) blif facts i p found.1.0 = found.1.1 in
       (choice i p place).1 (found.0, (found.1.0, record { paired = may.paired; cell = may.cell; cared = may.cared; plain = may.plain; allowed = may.allowed }))),
 )
-
--- ---- facts without drives
-
-soft_in_phase : (cut : Cut) (blif : Blif) (facts : List CellFacts) (c : Circuit) (phase : ℕ) → IsTrialAtClocks cut blif facts c phase → IsTrialInPhase cut blif facts c phase
-soft_in_phase cut blif facts c phase h =
-    record { trial = soft_is_trial cut blif facts h.trial; formed = h.formed; circuit = h.circuit; there = h.there; clocks = h.clocks }
-
-soft_acyclic : (cut : Cut) (blif : Blif) (facts : List CellFacts) (c : Circuit) → IsTrialWithoutCycles cut blif facts c → IsAcyclicTrial cut blif facts c
-soft_acyclic cut blif facts c h =
-    record { trial = soft_is_trial cut blif facts h.trial; formed = h.formed; circuit = h.circuit; clocks = h.clocks; acyclic = h.acyclic }
-
-pub step_keeps_acyclic : StepKeepsAcyclic
-step_keeps_acyclic cut blif facts c i phase h low free = any_step_keeps_acyclic cut blif facts c i phase (soft_in_phase cut blif facts c phase h) low free
-
-pub trials_are_acyclic : TrialsAreAcyclic
-trials_are_acyclic cut blif facts c i phase h free = (any_trials_are_acyclic cut blif facts c phase (soft_in_phase cut blif facts c phase h) free).0 i
-
-pub flat_trials_are_acyclic : FlatTrialsAreAcyclic
-flat_trials_are_acyclic cut blif facts c phase h free = (any_trials_are_acyclic cut blif facts c phase (soft_in_phase cut blif facts c phase h) free).1
-
-pub tried_may_be_whole : TriedMayBeWhole
-tried_may_be_whole cut blif facts c i p h place chosen = any_tried_may_be_whole cut blif facts c i p (soft_acyclic cut blif facts c h) place chosen
-
-pub allowed_are_chosen : AllowedAreChosen
-allowed_are_chosen cut blif facts c choice h = any_allowed_are_chosen cut blif facts c choice (soft_acyclic cut blif facts c h)

@@ -2,7 +2,7 @@
 use Rattle.std.specs.Prelude.{◌≡◌, ◌↔◌, ℕ, suc, ◌<◌, true, false, List, length}
 use Rattle.replaced_instances.specs.Steps.{IsAllowedInstance}
 use Rattle.whole_circuits.specs.Acyclic.{AreAcyclic}
-use Rattle.substitution_laws.specs.Chosen.{IsSoftTrial, IsTrial}
+use Rattle.substitution_laws.specs.Chosen.{IsTrial}
 use Rattle.vrt_model.specs.Checked.{HasArcWith, IsChoice, IsCircuitWith, MayBeWhole, before}
 use Rattle.vrt_model.specs.Circuits.{IsCircuit}
 use Rattle.vrt_model.specs.Comparison.{phase_at}
@@ -100,57 +100,3 @@ abbrev pub AnyAllowedAreChosen : Type 0
 AnyAllowedAreChosen =
     (cut : Cut) (blif : Blif) (facts : List CellFacts) (c : Circuit)
     → IsChoiceOfAllowed cut blif facts → IsAcyclicTrial cut blif facts c → IsChoice cut blif facts
-
--- ---- cycles, where facts say of no output how strongly it drives
-
--- the same by facts that tell no drives
-pub record IsTrialAtClocks (cut : Cut) (blif : Blif) (facts : List CellFacts) (c : Circuit) (phase : ℕ) : Type 0 where
-  pub trial : IsSoftTrial cut blif facts
-  pub formed : IsCircuit (flat_circuit_of cut.top)
-  pub circuit : IsCircuitWith cut blif facts c
-  pub there : phase < length cut.top.rules.phases
-  pub clocks : AreClocksKnown cut blif c phase
-
--- The law: so it is here, step by step.
-abbrev pub StepKeepsAcyclic : Type 0
-StepKeepsAcyclic =
-    (cut : Cut) (blif : Blif) (facts : List CellFacts) (c : Circuit) (i phase : ℕ)
-    → IsTrialAtClocks cut blif facts c phase → suc i < length (all_places cut.top)
-    → IsAcyclic (HasArcWith (before cut (suc i)) blif facts phase) → IsAcyclic (HasArcWith (before cut i) blif facts phase)
-
--- The law: so where arcs have no cycle with all of them whole, they have none with those before any of them whole.
-abbrev pub TrialsAreAcyclic : Type 0
-TrialsAreAcyclic =
-    (cut : Cut) (blif : Blif) (facts : List CellFacts) (c : Circuit) (i phase : ℕ)
-    → IsTrialAtClocks cut blif facts c phase → IsAcyclic (HasArc c (phase_at cut.top.rules phase))
-    → IsAcyclic (HasArcWith (before cut i) blif facts phase)
-
--- The law: nor has the flat circuit.
-abbrev pub FlatTrialsAreAcyclic : Type 0
-FlatTrialsAreAcyclic =
-    (cut : Cut) (blif : Blif) (facts : List CellFacts) (c : Circuit) (phase : ℕ)
-    → IsTrialAtClocks cut blif facts c phase → IsAcyclic (HasArc c (phase_at cut.top.rules phase))
-    → IsAcyclic (HasArc (flat_circuit_of cut.top) (phase_at cut.top.rules phase))
-
--- ---- choices
-
--- so in each phase, and the arcs of the circuit in which all are whole have no cycle in any
-pub record IsTrialWithoutCycles (cut : Cut) (blif : Blif) (facts : List CellFacts) (c : Circuit) : Type 0 where
-  pub trial : IsSoftTrial cut blif facts
-  pub formed : IsCircuit (flat_circuit_of cut.top)
-  pub circuit : IsCircuitWith cut blif facts c
-  pub clocks : (phase : ℕ) → phase < length cut.top.rules.phases → AreClocksKnown cut blif c phase
-  pub acyclic : AreAcyclic c cut.top.rules.phases
-
--- The law: then each may be left whole besides those before it.
-abbrev pub TriedMayBeWhole : Type 0
-TriedMayBeWhole =
-    (cut : Cut) (blif : Blif) (facts : List CellFacts) (c : Circuit) (i : ℕ) (p : NumberedPlace)
-    → IsTrialWithoutCycles cut blif facts c → At (numbered_places cut.top) (suc i) p → cut.choice i ≡ true
-    → (is_inside_whole (before cut i) p.at ≡ false) × ((m : ℕ) × MayBeWhole (before cut i) blif facts i p m)
-
--- The law: and where all are chosen that are allowed, they are chosen as the definition asks.
-abbrev pub AllowedAreChosen : Type 0
-AllowedAreChosen =
-    (cut : Cut) (blif : Blif) (facts : List CellFacts) (c : Circuit)
-    → IsChoiceOfAllowed cut blif facts → IsTrialWithoutCycles cut blif facts c → IsChoice cut blif facts

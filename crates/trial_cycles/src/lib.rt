@@ -5,7 +5,6 @@
 mod trials;
 
 pub use trials::{
-    allowed_are_chosen, any_allowed_are_chosen, any_step_keeps_acyclic, any_trials_are_acyclic,
-    any_tried_may_be_whole, carried_clocks_are_known, flat_trials_are_acyclic, step_keeps_acyclic,
-    trials_are_acyclic, tried_may_be_whole,
+    any_allowed_are_chosen, any_step_keeps_acyclic, any_trials_are_acyclic, any_tried_may_be_whole,
+    carried_clocks_are_known,
 };

@@ -1,6 +1,6 @@
 //! Circuits in which some of the instances are whole, those before a place.
 
-ghost use Rattle.trial_cycles.specs.TrialCycles.{AllowedAreChosen, AnyAllowedAreChosen, AnyStepKeepsAcyclic, AnyTrialsAreAcyclic, AnyTriedMayBeWhole, CarriedClocksAreKnown, FlatTrialsAreAcyclic, StepKeepsAcyclic, TrialsAreAcyclic, TriedMayBeWhole};
+ghost use Rattle.trial_cycles.specs.TrialCycles.{AnyAllowedAreChosen, AnyStepKeepsAcyclic, AnyTrialsAreAcyclic, AnyTriedMayBeWhole, CarriedClocksAreKnown};
 
 /// A clock port at a net that carries the same clock is known in each phase.
 pub fn carried_clocks_are_known()
@@ -25,30 +25,4 @@ pub fn any_tried_may_be_whole()
 /// And where all are chosen that the other tests allow, they are chosen as the definition asks.
 pub fn any_allowed_are_chosen()
     ensures { AnyAllowedAreChosen }
-{}
-
-/// By facts that say of no output how strongly it drives: where the arcs have no cycle with the instances up to one whole, they have none with
-/// those before it whole.
-pub fn step_keeps_acyclic()
-    ensures { StepKeepsAcyclic }
-{}
-
-/// Where they have none with all of them whole, they have none with those before any of them whole.
-pub fn trials_are_acyclic()
-    ensures { TrialsAreAcyclic }
-{}
-
-/// Nor has the flat circuit.
-pub fn flat_trials_are_acyclic()
-    ensures { FlatTrialsAreAcyclic }
-{}
-
-/// So each of them may be left whole besides those before it.
-pub fn tried_may_be_whole()
-    ensures { TriedMayBeWhole }
-{}
-
-/// And where all are chosen that the other tests allow, they are chosen as the definition asks.
-pub fn allowed_are_chosen()
-    ensures { AllowedAreChosen }
 {}

@@ -1,6 +1,6 @@
 //! Runs over files in memory, each with what it answers and writes. Standard input says what each run is given, a line at a
-//! time (`script`): cells whose verdicts were worked out by hand, what is refused and how it is told, the words, and
-//! failures of the files and of the output. Behind them the files and sinks alone: in memory, and on the disk.
+//! time (`script`): the verdict on a cell and its workspace, the words, failures of the files and of the output, and texts
+//! that were cut off. Behind them the files and sinks alone: in memory, and on the disk.
 #![tactic(auto)]
 
 mod fronts;
@@ -10,6 +10,7 @@ mod rooms;
 mod row;
 mod script;
 mod told;
+mod verdicts;
 mod wholes;
 
 use row_script::Page;

@@ -9,12 +9,13 @@
 //! | `try NAME` | a run in which calls fail as was said; then nothing fails again |
 //! | `fronts NAME` | a run with each front of the text that was begun last, from none of its bytes to all; an answer that is another than the one before is told, with the count of bytes from which on it comes |
 //! | `tell WORDS` | what the words ask for |
+//! | `compare NAME` | the verdict on the first cell |
 //! | `whole NAME` | the checked circuit of the second cell, by what is known of the first |
 //! | `ask NAME CELL BUDGET BITS TIMES PHASES` | what the workspace of the first cell (0), or of the second (1) by what is known of the first, answers for these phases in this order, each asked for so often, with the bits of so many variables for a fault |
 
 use crate::row::{Failures, Row, SOUND, run_row, run_sure};
 use crate::told::tell;
-use crate::{fronts, rooms, wholes};
+use crate::{fronts, rooms, verdicts, wholes};
 use row_script::{Page, Script, number, shown, word_and_rest};
 use std::alloc::Global;
 
@@ -90,6 +91,7 @@ impl Runs {
             "try" => self.run_failing(page, rest),
             "fronts" => fronts::tell(page, rest, self.row(), self.texts.part),
             "tell" => tell(page, rest),
+            "compare" => verdicts::tell(page, rest, self.row()),
             "whole" => wholes::tell(page, rest, self.row()),
             "ask" => rooms::tell(page, rest, self.row()),
             _ => page.word(line),

@@ -93,7 +93,7 @@ pub(crate) fn check(alloc: Global, inputs: &Inputs) -> Result<(), NoCircuit>
 }
 
 /// A cell compared with its model, by what is known of cells before.
-fn compared(
+pub(crate) fn compared(
     alloc: Global,
     inputs: &Inputs,
     cell: u32,

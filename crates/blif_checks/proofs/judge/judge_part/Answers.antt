@@ -1,7 +1,9 @@
+use Rattle.std.proofs.Common.{map, refl}
+use Rattle.blif_checks.specs.Mentions.{mentions_in, numbered}
 use Rattle.blif_checks.specs.Parts.{part_of}
-use Rattle.blif_checks.proofs.LeastLaws.{judged_shown}
+use Rattle.blif_checks.proofs.LeastLaws.{judged}
 use Rattle.blif_checks.proofs.judge.judge_part.Goals as goal
 
 pub returns : goal.returns
 returns c =
-    judged_shown c.args.blif.now (part_of c.args.part c.args.model.now) c.in-Ok.shown c.as_slice.result.now c.as_slice-2.result.now c.judge_mentions.result c.in-Ok.ensures c.as_slice.ensures.value c.as_slice-2.ensures c.judge_mentions.ensures
+    judged c.args.blif.now (part_of c.args.part c.args.model.now) c.in-Ok.noted.notes.items c.in-Ok.noted.names (map (numbered c.in-Ok.noted.names) (mentions_in (part_of c.args.part c.args.model.now))) c.judge_noted.result c.in-Ok.ensures refl c.judge_noted.ensures

@@ -2,4 +2,4 @@ use Rattle.checked_cells.proofs.CircuitLaws.{checked_circuits_share}
 use Rattle.checked_cells.proofs.circuits.checked_circuits_share.Goals as goal
 
 pub returns : goal.returns
-returns c all_soft = checked_circuits_share
+returns c = checked_circuits_share

@@ -2,4 +2,4 @@ use Rattle.checked_cells.proofs.WholeLaws.{checked_circuits_are_wired}
 use Rattle.checked_cells.proofs.outputs.checked_circuits_are_wired.Goals as goal
 
 pub returns : goal.returns
-returns c all_soft = checked_circuits_are_wired
+returns c = checked_circuits_are_wired

@@ -2,4 +2,4 @@ use Rattle.checked_cells.proofs.OutputLaws.{checked_outputs_are_allowed}
 use Rattle.checked_cells.proofs.outputs.checked_outputs_are_allowed.Goals as goal
 
 pub returns : goal.returns
-returns c all_soft = checked_outputs_are_allowed
+returns c = checked_outputs_are_allowed

@@ -2,4 +2,4 @@ use Rattle.checked_cells.proofs.VerdictLaws.{checked_variables_are_same}
 use Rattle.checked_cells.proofs.verdicts.checked_variables_are_same.Goals as goal
 
 pub returns : goal.returns
-returns c all_soft = checked_variables_are_same
+returns c = checked_variables_are_same

@@ -2,4 +2,4 @@ use Rattle.checked_cells.proofs.VerdictLaws.{flat_verdicts_hold}
 use Rattle.checked_cells.proofs.verdicts.flat_verdicts_hold.Goals as goal
 
 pub returns : goal.returns
-returns c all_soft = flat_verdicts_hold
+returns c = flat_verdicts_hold

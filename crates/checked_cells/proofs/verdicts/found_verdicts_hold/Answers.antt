@@ -2,4 +2,4 @@ use Rattle.checked_cells.proofs.VerdictLaws.{found_verdicts_hold}
 use Rattle.checked_cells.proofs.verdicts.found_verdicts_hold.Goals as goal
 
 pub returns : goal.returns
-returns c all_soft = found_verdicts_hold
+returns c = found_verdicts_hold

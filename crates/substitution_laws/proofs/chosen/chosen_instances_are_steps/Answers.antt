@@ -2,4 +2,4 @@ use Rattle.substitution_laws.proofs.ChosenLaws.{chosen_instances_are_steps}
 use Rattle.substitution_laws.proofs.chosen.chosen_instances_are_steps.Goals as goal
 
 pub returns : goal.returns
-returns c all_soft = chosen_instances_are_steps
+returns c = chosen_instances_are_steps

@@ -2,4 +2,4 @@ use Rattle.substitution_laws.proofs.EndsLaws.{chosen_ends_are_shown}
 use Rattle.substitution_laws.proofs.ends.chosen_ends_are_shown.Goals as goal
 
 pub returns : goal.returns
-returns c all_soft = chosen_ends_are_shown
+returns c = chosen_ends_are_shown

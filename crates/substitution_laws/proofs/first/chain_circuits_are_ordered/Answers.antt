@@ -2,4 +2,4 @@ use Rattle.substitution_laws.proofs.OrderedLaws.{chain_circuits_are_ordered}
 use Rattle.substitution_laws.proofs.first.chain_circuits_are_ordered.Goals as goal
 
 pub returns : goal.returns
-returns c all_soft = chain_circuits_are_ordered
+returns c = chain_circuits_are_ordered

@@ -2,4 +2,4 @@ use Rattle.substitution_laws.proofs.WholePins.{step_has_cell_pins}
 use Rattle.substitution_laws.proofs.pins.step_has_cell_pins.Goals as goal
 
 pub returns : goal.returns
-returns c all_soft = step_has_cell_pins
+returns c = step_has_cell_pins

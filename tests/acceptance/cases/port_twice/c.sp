@@ -1,0 +1,2 @@
+t
+.subckt a b b

@@ -1,0 +1,3 @@
+t
+.subckt wire a
+.ends
