@@ -64,7 +64,7 @@ off_rows cover e = by_parts cover.on cover.rows e
 pub literals_last : (row : List ℕ) (i j : ℕ) → i ≡ j → literals_in (drop i row) ≡ literals_in (drop j row)
 literals_last row i j e = ap (λ (k : ℕ). literals_in (drop k row)) e
 
-literals_are : (row : List ℕ) → literals_in row ≡ sum_by literal_count row
+pub literals_are : (row : List ℕ) → literals_in row ≡ sum_by literal_count row
 literals_are row = length-filter (λ (byte : ℕ). (byte == 48) || (byte == 49)) row
 
 -- one literal more, from the last to the first

@@ -13,3 +13,4 @@ pub mod EvalLaws
 pub mod OperationLaws
 pub mod RowLaws
 pub mod CountLaws
+pub mod SelectLaws

@@ -78,7 +78,7 @@ rows_none d span inputs rows sound within =
     gives_none d (rows_upto d span inputs rows 0) (record { 0 = 0 }) sound within (let ends = sound.ends in omega (arith, ends)) (λ v. meaning_zero d.nodes v)
 
 -- the same bits of the inputs, the same rows fit
-row_bits : (a b : Diagrams) (f : Function) (r : Result H Spent) (span : Span) (v : Valuation) (inputs row : List ℕ) → Gives a b f r → IsFilled a span
+pub row_bits : (a b : Diagrams) (f : Function) (r : Result H Spent) (span : Span) (v : Valuation) (inputs row : List ℕ) → Gives a b f r → IsFilled a span
     → All (λ s. s < span.len) inputs → row_fits (bits_in b span v) inputs row ≡ row_fits (bits_in a span v) inputs row
 row_bits a b f r span v inputs row g live low =
     row_same (bits_in b span v) (bits_in a span v) inputs row (λ s m. bits_kept a b f r span s v g live (all_among (λ (k : ℕ). k < span.len) inputs s low m))

@@ -5,5 +5,6 @@ pub mod Learning
 pub mod OneAssignment
 pub mod Operations
 pub mod Plans
+pub mod Selections
 pub mod Settled
 pub mod Sources

@@ -1,19 +1,20 @@
 //! A model evaluated at every valuation of the variables of a store.
 
 ghost use Rattle.std.specs.Prelude.{◌≡◌, ◌≢◌, ℕ, ◌+◌, ◌*◌, ◌<◌, ◌≤◌, [], Some, length, slice_get, sum_by, IfErr, IfOk};
-ghost use Rattle.bdd_core.specs.Diagram.{IsWithin, Valuation};
-ghost use Rattle.bdd_core.specs.Store.{IsLive, IsSpan, function_of, Gives};
+ghost use Rattle.bdd_core.specs.Diagram.{Valuation};
+ghost use Rattle.bdd_core.specs.Store.{IsSpan, Gives};
 ghost use Rattle.bdd_core.specs.Words.{IsFilled, Writes, shows, word_at};
 ghost use Rattle.blif_eval.specs.Drivers.{AreDrivers, IsDriver, node_count};
 ghost use Rattle.blif_eval.specs.Evaluated.{AreSteps, HasModelSpans, IsEvaluated, IsPlannedFor};
 ghost use Rattle.bdd_ops.specs.Counting.{Counts, IsSpanWithin};
 ghost use Rattle.blif_eval.specs.Operations.{driver_operations, number_operations, operations_of, weighed};
-ghost use Rattle.blif_eval.specs.Settled.{AreSettled, HasRange, HasStepSpans, TakesValue, control_word, cover_value, function_at, function_by, stored, bits_in};
+ghost use Rattle.blif_eval.specs.Settled.{AreSettled, HasRange, HasStepSpans, TakesValue, control_word, cover_value, function_at, function_by, bits_in};
 ghost use Rattle.blif_eval.specs.declared.driver_table.Driver.TheVariants.{Element};
 ghost use Rattle.vrt_model.specs.Budget.{model_size};
 ghost use Rattle.vrt_model.specs.FlatModels.{IsControl, IsFlatModel};
 
 use crate::ModelPlan;
+use crate::choice::choose;
 use crate::cover::cover_diagram;
 use crate::driver_table::{Driver, Storage, driver_at};
 use bdd_core::{H, Spent, Store, ZERO};
@@ -60,20 +61,6 @@ fn control_handle(store: &Store, control: Option<u32>, signals: u32, inputs: Spa
     match control {
         Some(signal) => H(store.read(out, signal)),
         None => H(store.read(inputs, signals)),
-    }
-}
-
-/// What an element stores: what it takes in where its control opens it, and elsewhere its old bit.
-fn choose(store: &mut Store, open_at: bool, control: H, source: H, held: H) -> Result<H, Spent>
-    requires { IsLive store.old control × IsLive store.old source × IsLive store.old held }
-    ensures gives { Gives store.old store.new (λ v. stored open_at (function_of store.old control v) (function_of store.old source v) (function_of store.old held v)) result }
-    ensures counts { (u : ℕ) → IsWithin u (function_of store.old control) → IsWithin u (function_of store.old source) → IsWithin u (function_of store.old held) → Counts u 1 store.old store.new result }
-{
-    store.sound();
-    if open_at {
-        store.ite(control, source, held)
-    } else {
-        store.ite(control, held, source)
     }
 }
 

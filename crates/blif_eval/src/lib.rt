@@ -2,6 +2,7 @@
 //! of a cover from those of its inputs, and the diagrams of all signals and elements.
 #![tactic(auto)]
 
+mod choice;
 mod cover;
 mod driver_table;
 mod eval;

@@ -4,13 +4,13 @@ use Rattle.std.specs.Prelude.{slice_get, unwrap_or}
 use Rattle.std.proofs.lemmas.Option.{same_Some}
 use Rattle.vrt_model.proofs.Lists.{among_filter_map}
 use Rattle.vrt_model.specs.FlatBlif.{dontcare_of, flat_model_of, inner_signals, model_at, network_names, signal_at, signals_of, top_model, unrolled_of}
-use Rattle.vrt_model.specs.Lists.{Among, has_name, place_of}
+use Rattle.vrt_model.specs.FlatModels.{HasOneBitEach}
+use Rattle.vrt_model.specs.Lists.{has_name, place_of}
 use Rattle.vrt_model.specs.declared.blif.Blif.{Blif}
 use Rattle.vrt_model.specs.declared.flat_model.DontCare.{DontCare}
 use Rattle.names.proofs.FilterLaws.{filter_new}
 use Rattle.names.proofs.PlaceLaws.{placed_at}
 use Rattle.blif_checks.specs.Mentions.{number_among}
-use Rattle.blif_flat.specs.Network.{HasOneBitEach}
 use Rattle.blif_flat.proofs.OneDriverCounts.{place_number}
 use Rattle.blif_flat.proofs.RangeLaws.{output_named}
 

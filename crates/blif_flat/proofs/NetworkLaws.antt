@@ -1,6 +1,6 @@
 -- The flat model of good models, with its network, is well formed.
 use Rattle.std.proofs.Common.{◌≡◌, ◌<◌, ◌≤◌, ◌+◌, ◌++◌, ◌∷◌, ◌&&◌, inl, inr, [], ℕ, zero, suc, List, Bool, true, false, cond, map, flat_map, filter, length, Option, Some, None, option_map, refl, ap, ap₂, sym, ◌∙◌, subst, arith}
-use Rattle.std.specs.Prelude.{◌⊎◌, ◌==◌, All, bytes_eq, count_by, filter_map, not, sum_by, unwrap_or}
+use Rattle.std.specs.Prelude.{◌==◌, All, bytes_eq, filter_map, not, unwrap_or}
 use Rattle.std.proofs.lemmas.Bool.{and_parts}
 use Rattle.std.proofs.lemmas.List.{length-map, map-append}
 use Rattle.std.proofs.lemmas.Option.{same_Some}
@@ -10,8 +10,7 @@ use Rattle.vrt_model.proofs.Members.{all_among, all_by, among_either, among_filt
 use Rattle.vrt_model.specs.FlatBlif.{cover_signals, dontcare_of, flat_model_of, model_at, network_cover, network_names, network_signal, signal_at, signals_of, top_model, unrolled_of}
 use Rattle.vrt_model.specs.FlatModels.{IsCover, IsFlatModel, IsLatch, IsControl, IsRow, drivers_of}
 use Rattle.vrt_model.specs.Inputs.{IsBlif, IsCoverLine, IsModel}
-use Rattle.vrt_model.specs.Limits.{most_rows, most_signals}
-use Rattle.vrt_model.specs.Lists.{Among, At, distinct, has_name, place_of}
+use Rattle.vrt_model.specs.Lists.{Among, distinct, has_name, place_of}
 use Rattle.vrt_model.specs.Models.{AreModels, OnLine, drivers_in, network_of}
 use Rattle.vrt_model.specs.Unsupported.{model_limits, too_large}
 use Rattle.vrt_model.specs.declared.blif.Blif.{Blif}

@@ -1,25 +1,25 @@
 -- The network of a model behind what is unrolled of it, as the code makes it and by the definition.
-use Rattle.std.proofs.Common.{◌≡◌, ◌+◌, ◌++◌, ◌∷◌, ◌≤◌, [], ℕ, List, filter, map, flat_map, length, take, Option, None, Some, refl, ap, ap₂, sym, ◌∙◌, arith}
+use Rattle.std.proofs.Common.{◌≡◌, ◌+◌, ◌++◌, ◌∷◌, [], ℕ, List, filter, map, flat_map, length, take, Option, None, Some, ap, ap₂, sym, ◌∙◌}
 use Rattle.std.specs.Prelude.{filter_map, slice_get, sum_by, unwrap_or}
-use Rattle.std.proofs.lemmas.List.{append-nil, length-append, length-map}
+use Rattle.std.proofs.lemmas.List.{length-append, length-map}
 use Rattle.std.proofs.lemmas.List.Elements.{filter_agree, filter_map-append}
 use Rattle.std.proofs.lemmas.List.Sums.{sum_by-append}
 use Rattle.vrt_model.proofs.Lists.{take_one}
+use Rattle.vrt_model.proofs.Networkless.{no_names, own_alone}
 use Rattle.vrt_model.proofs.Sums.{carried_both, carried_once}
-use Rattle.vrt_model.specs.FlatBlif.{ModelPlace, cover_signals, flat_model_of, model_at, network_names, signal_at, top_model, unrolled_of}
+use Rattle.vrt_model.specs.FlatBlif.{cover_signals, flat_model_of, model_at, network_names, signal_at, top_model, unrolled_of}
 use Rattle.vrt_model.specs.Lists.{distinct, has_name}
 use Rattle.vrt_model.specs.Unsupported.{carried}
 use Rattle.vrt_model.specs.declared.blif.Blif.{Blif}
 use Rattle.vrt_model.specs.declared.blif.BlifModel.{BlifModel}
 use Rattle.vrt_model.specs.declared.blif.CoverLine.{CoverLine}
 use Rattle.vrt_model.specs.declared.flat_model.Cover.{Cover}
-use Rattle.vrt_model.specs.declared.flat_model.DontCare.{DontCare}
 use Rattle.vrt_model.specs.declared.flat_model.FlatModel.{FlatModel}
 use Rattle.names.specs.Names.{with_names}
-use Rattle.names.proofs.ApartLaws.{NoRepeat, all_named, kept_apart, once_apart}
+use Rattle.names.proofs.ApartLaws.{all_named, kept_apart, once_apart}
 use Rattle.names.proofs.NameLaws.{names_once, once_has_same}
 use Rattle.blif_flat.specs.Counts.{AreCounts, AreFlatCounts, counts_with}
-use Rattle.blif_flat.specs.Network.{cover_behind, dc_name, dontcare_behind, number_behind, rows_of, with_network}
+use Rattle.blif_flat.specs.Network.{cover_behind, dc_name, rows_of, with_network}
 use Rattle.blif_flat.specs.Places.{IsPlace, number_in, place_in}
 use Rattle.blif_flat.specs.declared.counts.Counts.{Counts}
 use Rattle.blif_flat.specs.declared.places.Place.{Place}
@@ -55,33 +55,6 @@ network_is blif m p names model own is top n b e =
     let number : number_in p ≡ signal_at blif (top_model m) = signal_is blif p is ∙ ap (signal_at blif) top in
     ap₂ (λ (f : List ℕ → ℕ) (ns : List (List ℕ)). with_network f ns model own) number n
     ∙ ap₂ (λ (x : BlifModel) (flat : FlatModel). with_network (signal_at blif (top_model m)) (network_names (model_at blif m)) x flat) b e
-
--- a model without a network
-no_names : (m : BlifModel) → m.exdc ≡ [] → network_names m ≡ []
-unfolding network_names
-no_names m none = ap (λ (cs : List CoverLine). filter (has_name (map (λ (c : CoverLine). c.output) cs)) (distinct (flat_map cover_signals cs))) none
-
-none_kept : (f : List ℕ → ℕ) (count : ℕ) (names : List (List ℕ)) → filter_map (dontcare_behind f [] count) names ≡ []
-none_kept f count [] = refl
-none_kept f count (name ∷ names) = none_kept f count names
-
-nothing_behind : (own : FlatModel) (f : List ℕ → ℕ) (m : BlifModel) (names : List (List ℕ)) → names ≡ [] → m.exdc ≡ [] → with_network f names m own ≡ record own { dontcares = [] }
-nothing_behind own f m names n none =
-    ap₂ (λ (ns : List (List ℕ)) (cs : List CoverLine). let one : FlatModel = record own {
-      signals = own.signals ++ map dc_name ns;
-      covers = own.covers ++ map (cover_behind f ns (length own.signals)) cs;
-      dontcares = filter_map (dontcare_behind f ns (length own.signals)) m.outputs;
-    } in one) n none
-    ∙ ap₂ (λ (ns : List (List ℕ)) (cs : List Cover). let one : FlatModel = record own {
-      signals = ns;
-      covers = cs;
-      dontcares = filter_map (dontcare_behind f [] (length own.signals)) m.outputs;
-    } in one) (append-nil own.signals) (append-nil own.covers)
-    ∙ ap (λ (ds : List DontCare). let one : FlatModel = record own { dontcares = ds } in one) (none_kept f (length own.signals) m.outputs)
-
-pub own_alone : (blif : Blif) (m : ℕ) → (model_at blif m).exdc ≡ [] → flat_model_of blif m ≡ unrolled_of blif m
-unfolding flat_model_of unrolled_of
-own_alone blif m none = nothing_behind (unrolled_of blif m) (signal_at blif (top_model m)) (model_at blif m) (network_names (model_at blif m)) (no_names (model_at blif m) none) none
 
 -- where there is no model there is no network
 no_covers : (blif : Blif) (m : ℕ) → slice_get blif.models m ≡ None → (model_at blif m).exdc ≡ []

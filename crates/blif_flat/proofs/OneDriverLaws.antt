@@ -1,5 +1,5 @@
 -- What is unrolled of good models is well formed.
-use Rattle.std.proofs.Common.{Bool, Some, ◌≡◌, ◌<◌, ◌≤◌, ◌+◌, ◌++◌, ◌∷◌, inl, inr, [], ℕ, zero, suc, List, true, false, not, map, flat_map, length, Option, None, refl, ap, ap₂, sym, ◌∙◌, subst, arith}
+use Rattle.std.proofs.Common.{Bool, Some, ◌≡◌, ◌≤◌, ◌+◌, ◌++◌, ◌∷◌, inl, inr, [], ℕ, zero, suc, List, true, false, not, map, flat_map, length, Option, None, refl, ap, ap₂, sym, ◌∙◌, arith}
 use Rattle.std.specs.Prelude.{◌==◌, All, filter, find, is_none, nat_lt, slice_get, sum_by, unwrap_or, cond}
 use Rattle.std.proofs.lemmas.Bool.{cases_lt, or_parts}
 use Rattle.std.proofs.lemmas.List.Elements.{All-head, All-tail}
@@ -17,7 +17,6 @@ use Rattle.vrt_model.specs.declared.blif.LatchLine.{LatchLine}
 use Rattle.vrt_model.specs.declared.blif.SubLine.{SubLine}
 use Rattle.vrt_model.specs.declared.flat_model.Cover.{Cover}
 use Rattle.vrt_model.specs.declared.flat_model.FlatLatch.{FlatLatch}
-use Rattle.vrt_model.specs.declared.flat_model.FlatModel.{FlatModel}
 use Rattle.vrt_model.proofs.Members.{all_by, among_left, among_right, at_none, find_none}
 use Rattle.vrt_model.proofs.Tests.{is_none_is, neither}
 use Rattle.blif_checks.proofs.JudgeLaws.{network_is_model}

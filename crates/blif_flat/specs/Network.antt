@@ -1,6 +1,6 @@
 -- The don't-care network of a model behind what is unrolled of it, as the code makes it.
-use Rattle.std.specs.Prelude.{◌≡◌, ℕ, ◌+◌, ◌++◌, codes, List, map, filter_map, length, sum_by, Option, option_map, unwrap_or}
-use Rattle.vrt_model.specs.Lists.{Among, place_of}
+use Rattle.std.specs.Prelude.{ℕ, ◌+◌, ◌++◌, codes, List, map, filter_map, length, sum_by, Option, option_map, unwrap_or}
+use Rattle.vrt_model.specs.Lists.{place_of}
 use Rattle.vrt_model.specs.declared.blif.BlifModel.{BlifModel}
 use Rattle.vrt_model.specs.declared.blif.CoverLine.{CoverLine}
 use Rattle.vrt_model.specs.declared.flat_model.Cover.{Cover}
@@ -34,10 +34,6 @@ with_network own names m flat = record flat {
   covers = flat.covers ++ map (cover_behind own names (length flat.signals)) m.exdc;
   dontcares = filter_map (dontcare_behind own names (length flat.signals)) m.outputs;
 }
-
--- each output has at most one don't-care bit
-abbrev pub HasOneBitEach : FlatModel → Type 0
-HasOneBitEach flat = (d e : DontCare) → Among flat.dontcares d → Among flat.dontcares e → d.output ≡ e.output → d.bit ≡ e.bit
 
 -- how many rows covers have
 abbrev pub rows_of : List CoverLine → ℕ

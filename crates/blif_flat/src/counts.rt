@@ -1,6 +1,6 @@
 //! How much stands in models once their sub-models are unrolled, counted model by model.
 
-ghost use Rattle.std.specs.Prelude.{◌≡◌, ◌+◌, ℕ, [], None, List, map, length, get_or, sum_by, IfOk, OnOk};
+ghost use Rattle.std.specs.Prelude.{◌≡◌, ◌+◌, [], None, map, length, get_or, IfOk, OnOk};
 ghost use Rattle.vrt_model.specs.FlatBlif.{signals_of};
 ghost use Rattle.vrt_model.specs.Models.{bad_sub};
 ghost use Rattle.vrt_model.specs.Unsupported.{carried};

@@ -1,6 +1,6 @@
 //! Models with their sub-models unrolled.
 
-ghost use Rattle.std.specs.Prelude.{◌≡◌, ◌≤◌, ◌++◌, ◌∷◌, ℕ, Some, None, [], List, filter, map, not, length, IfOk, OnOk};
+ghost use Rattle.std.specs.Prelude.{◌≡◌, ◌≤◌, ◌++◌, ◌∷◌, Some, None, [], filter, map, not, length, IfOk, OnOk};
 ghost use Rattle.vrt_model.specs.Lists.{has_name};
 ghost use Rattle.names.specs.Names.{with_names};
 ghost use Rattle.vrt_model.specs.FlatBlif.{flat_model_of, model_at, network_names, signals_of, top_model, unrolled_of};

@@ -1,8 +1,7 @@
 //! Limits of unrolled models.
 
 ghost use Rattle.std.specs.Prelude.{◌≡◌, nat_lt};
-ghost use Rattle.vrt_model.specs.Unsupported.{model_limits, too_large};
-ghost use Rattle.blif_flat.specs.Counts.{AreCounts};
+ghost use Rattle.vrt_model.specs.Unsupported.{too_large};
 ghost use Rattle.blif_flat.specs.Flat.{limits_of};
 
 use crate::counts::Counts;

@@ -1,6 +1,6 @@
 //! The don't-care network of a model behind what is unrolled of it.
 
-ghost use Rattle.std.specs.Prelude.{◌≡◌, ◌+◌, ◌≤◌, ◌++◌, ◌∷◌, [], List, filter, filter_map, flat_map, map, length, IfOk, OnOk};
+ghost use Rattle.std.specs.Prelude.{◌≡◌, ◌+◌, ◌≤◌, ◌++◌, ◌∷◌, [], filter, filter_map, map, length, IfOk, OnOk};
 ghost use Rattle.vrt_model.specs.Lists.{has_name};
 ghost use Rattle.names.specs.Names.{with_names};
 ghost use Rattle.vrt_model.specs.FlatBlif.{model_at, network_names};

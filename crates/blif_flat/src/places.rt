@@ -1,10 +1,10 @@
 //! Models at their places in an unrolled one.
 
-ghost use Rattle.std.specs.Prelude.{◌≡◌, ◌+◌, ◌≤◌, ◌∷◌, ℕ, [], List, map, filter, not, length, get_or, slice_get, position, unwrap_or, bytes_eq, IfOk, OnOk};
+ghost use Rattle.std.specs.Prelude.{◌≡◌, ◌+◌, ◌≤◌, ◌∷◌, [], map, filter, not, length, get_or, slice_get, position, unwrap_or, bytes_eq, IfOk, OnOk};
 ghost use Rattle.std.specs.Fmt.{decimal};
 ghost use Rattle.vrt_model.specs.Lists.{has_name, path_name};
 ghost use Rattle.names.specs.Names.{with_names};
-ghost use Rattle.vrt_model.specs.FlatBlif.{inner_signals, model_at, signals_of, top_model};
+ghost use Rattle.vrt_model.specs.FlatBlif.{signals_of, top_model};
 ghost use Rattle.vrt_model.specs.declared.blif.Tie.{Tie as TieValue};
 ghost use Rattle.blif_flat.specs.Counts.{Fits};
 ghost use Rattle.blif_flat.specs.Places.{HasRoom, IsPlace, number_in, place_in, placed};

@@ -1,6 +1,6 @@
 //! The signals, covers and latches of an unrolled model.
 
-ghost use Rattle.std.specs.Prelude.{◌≡◌, ◌+◌, ◌≤◌, ℕ, None, List, ◌++◌, map, length, option_map, unwrap_or, IfOk, OnOk};
+ghost use Rattle.std.specs.Prelude.{◌≡◌, ◌+◌, ◌≤◌, None, ◌++◌, map, length, option_map, unwrap_or, IfOk, OnOk};
 ghost use Rattle.vrt_model.specs.FlatBlif.{signals_of};
 ghost use Rattle.vrt_model.specs.Models.{bad_sub};
 ghost use Rattle.blif_flat.specs.Places.{HasOwn, HasRoom, IsPlace, cover_in, latch_in, number_in, own_names, place_in, places_of, size_of, with_places};

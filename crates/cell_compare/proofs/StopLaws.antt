@@ -1,24 +1,19 @@
 -- What is told of a cell that is not compared.
-use Rattle.cell_compare.proofs.VerdictLaws.{line_with, told_why, true_of_none}
-use Rattle.cell_compare.specs.Cells.{HasFacts, HasLine}
+use Rattle.cell_compare.proofs.VerdictLaws.{line_with, told_why}
+use Rattle.cell_compare.specs.Cells.{HasLine}
 use Rattle.cell_compare.specs.Stops.{IsHindered}
 use Rattle.cell_room.specs.Compared.{AreInputs}
 use Rattle.cell_room.specs.Flat.{Flattened}
 use Rattle.cell_room.specs.Planned.{PlannedTells}
 use Rattle.cell_room.specs.Steps.{IsInTheWay}
 use Rattle.cell_room.specs.declared.planned.NotPlanned.TheVariants.{Because}
-use Rattle.std.proofs.Common.{Err, List, None, Option, Some, [], ap, false, inl, refl, ℕ, ◌≡◌}
-use Rattle.std.proofs.lemmas.Bool.{false≢true}
+use Rattle.std.proofs.Common.{Err, None, Option, Some, inl, refl, ℕ}
 use Rattle.vrt_model.specs.declared.blif.Blif.{Blif}
 use Rattle.vrt_model.specs.declared.design.Design.{Design}
 use Rattle.vrt_model.specs.declared.rules.Rules.{Rules}
-use Rattle.vrt_model.specs.PairedPorts.{Missing, paired_model}
-use Rattle.vrt_model.specs.Unsupported.{why_early}
-use Rattle.vrt_model.specs.declared.verdict.Verdict.{Verdict}
-use Rattle.vrt_model.specs.declared.verdict.Verdict.TheVariants.{Equal, Unsupported}
+use Rattle.vrt_model.specs.declared.verdict.Verdict.TheVariants.{Unsupported}
 use Rattle.vrt_model.specs.declared.verdict.Why.{Why}
 use Rattle.vrt_model.specs.declared.verdict.Why.TheVariants.{Cycle, DeviceModel, ModelCycle, NoClock, NoModel, OutputIsInput, Ports, SupplyTie, TooLarge, TooManyVars, Unmatched}
-use Rattle.vrt_model.specs.declared.whole.CellFacts.{CellFacts}
 
 -- a cause that stands in the way of circuit or model is told without them
 line_without : (design : Design) (blif : Blif) (rules : Rules) (cell : ℕ) (why : Why) → IsInTheWay why → HasLine design blif rules cell (Unsupported why) None
@@ -45,28 +40,4 @@ hindered design blif rules cell m why (Some f) inputs tells = record {
   cause = told_why design blif rules cell m f inputs tells.0 why tells.1;
   line = line_with design blif rules cell m f inputs tells.0 (Unsupported why);
   made = (m, tells.0);
-}
-
--- a cell that pairs with none cannot be checked
-pub unpaired : (design : Design) (blif : Blif) (rules : Rules) (cell : ℕ) → paired_model design blif rules cell ≡ Missing → IsHindered design blif rules cell NoModel None
-unpaired design blif rules cell none = record {
-  cause = inl (ap (why_early design blif rules cell) none);
-  line = refl;
-  made = tt;
-}
-
--- nothing is known of a cell that is not equal
-pub nothing_known : (design : Design) (blif : Blif) (rules : Rules) (below : List CellFacts) (cell : ℕ) (verdict : Verdict) → (verdict ≡ Equal → ⊥)
-    → HasFacts design blif rules below cell verdict (record { equal = false; stateless = false; drives = [] })
-nothing_known design blif rules below cell verdict other = record {
-  is_true = true_of_none design blif rules cell (record { equal = false; stateless = false; drives = [] }) refl refl refl;
-  are = λ m paired. record {
-    equal = (λ e. absurd (false≢true e), λ e. absurd (other e));
-    stateless = (λ e. absurd (false≢true e), λ all. absurd (other all.0));
-    drives = λ e. absurd (other e);
-    no_drives = λ e. refl;
-  };
-  equal = (λ e. absurd (false≢true e), λ e. absurd (other e));
-  no_state = λ e. refl;
-  no_drives = λ e. refl;
 }

@@ -12,6 +12,5 @@ pub mod PlacedLaws
 pub mod RegionLaws
 pub mod RootLaws
 pub mod ShiftedPlaces
-pub mod SolutionLaws
 pub mod UnjoinedLaws
 pub mod Valued

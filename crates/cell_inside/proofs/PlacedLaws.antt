@@ -1,13 +1,12 @@
 -- A cell that stands in a circuit stands in it at each reading.
 use Rattle.std.proofs.Common.{◌≡◌, ℕ, ◌≤◌, ◌<◌, Bool, true, false, List, [], ◌∷◌, length, map, arith, subst, sym, refl, ◌∙◌, ap, inl, inr}
-use Rattle.std.proofs.lemmas.Bool.{false≢true}
 use Rattle.std.proofs.lemmas.Option.{slice_get_within}
 use Rattle.cell_inside.proofs.Copies.{touched}
 use Rattle.cell_inside.proofs.Images.{image_conducts, image_in}
 use Rattle.cell_inside.proofs.NetKinds.{is_plain_is, plain_is, plain_not_given, supply_given}
 use Rattle.cell_inside.proofs.OutsideLaws.{outside_changes_nothing}
 use Rattle.cell_inside.specs.Inside.{ComesFromOutside, IsCopy, IsInside, IsOutside, IsShared, Touches}
-use Rattle.cell_inside.specs.Placed.{CellAtGatesStandsAlone, IsImage, IsPlaced, IsSupply, PlacedCellStandsAlone, alone}
+use Rattle.cell_inside.specs.Placed.{IsImage, IsPlaced, IsSupply, PlacedCellStandsAlone, alone}
 use Rattle.vrt_model.proofs.Filtered.{among_devices, device_among}
 use Rattle.vrt_model.proofs.Members.{all_among, among_map, at_none}
 use Rattle.vrt_model.proofs.Networks.{network_finite, network_levels}
@@ -157,8 +156,3 @@ placed_cell_stands_alone cell c at exposed drive phase inputs held bare s ranges
     (network_finite c bare held s all_ranges)
     (λ n m. let plain = p.exposed_plain n m in slice_get_within cell.nets n plain.0 plain.1)
     (placed_inside cell c at exposed drive phase inputs held bare s ranges all_ranges p reading drives)
-
-pub cell_at_gates_stands_alone : CellAtGatesStandsAlone
-cell_at_gates_stands_alone cell c at drive phase inputs held bare s ranges all_ranges p reading =
-    let h = placed_cell_stands_alone cell c at (λ n. false) drive phase inputs held bare s ranges all_ranges p reading (λ n m. absurd (false≢true m)) in
-    (h.0, elim h.2 [ inl fight ↦ absurd (false≢true fight.1) | inr same ↦ same ])

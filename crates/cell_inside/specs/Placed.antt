@@ -69,11 +69,3 @@ PlacedCellStandsAlone =
     → HasSameStrengths (alone cell bare at s) (network_of c bare held s) at (is_plain_at cell)
     × KeepsReaches (alone cell bare at s) (network_of c bare held s) at (is_plain_at cell)
     × (HasFight (network_of c bare held s) at exposed ⊎ HasSameReaches (alone cell bare at s) (network_of c bare held s) at (is_plain_at cell))
-
--- The law: where the cell meets gates alone, strengths inside and what reaches each net are those of the cell alone.
-abbrev pub CellAtGatesStandsAlone : Type 0
-CellAtGatesStandsAlone =
-    (cell c : Circuit) (at drive : ℕ → ℕ) (phase : Phase) (inputs held : ℕ → Bool) (bare : Bool) (s : State)
-    → HasRanges cell → HasRanges c → IsPlaced cell c at (λ n. false) drive → IsReading c phase inputs s.reading
-    → HasSameStrengths (alone cell bare at s) (network_of c bare held s) at (is_plain_at cell)
-    × HasSameReaches (alone cell bare at s) (network_of c bare held s) at (is_plain_at cell)

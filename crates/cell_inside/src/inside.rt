@@ -1,7 +1,7 @@
 //! A cell in a circuit: what is outside it, and what that changes inside.
 
 ghost use Rattle.cell_inside.specs.Inside.{OutsideChangesNothing};
-ghost use Rattle.cell_inside.specs.Placed.{CellAtGatesStandsAlone, PlacedCellStandsAlone};
+ghost use Rattle.cell_inside.specs.Placed.{PlacedCellStandsAlone};
 
 /// Where no path that comes in from outside is stronger, at an exposed output, than what the cell alone gives that output, each
 /// net inside has the strength that it has in the cell alone, and each value that reaches it there reaches it in the circuit.
@@ -15,10 +15,4 @@ pub fn outside_changes_nothing()
 /// drive outside is stronger than the exposed output at which it is: in each state of the circuit, bare or kept.
 pub fn placed_cell_stands_alone()
     ensures { PlacedCellStandsAlone }
-{}
-
-/// Where only gates outside are at the nets of the cell, each of them has the strength that it has in the cell alone, and
-/// exactly the same values reach it: without exception.
-pub fn cell_at_gates_stands_alone()
-    ensures { CellAtGatesStandsAlone }
 {}

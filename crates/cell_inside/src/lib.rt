@@ -9,11 +9,11 @@ mod regions;
 mod roots;
 mod solutions;
 
-pub use inside::{cell_at_gates_stands_alone, outside_changes_nothing, placed_cell_stands_alone};
+pub use inside::{outside_changes_nothing, placed_cell_stands_alone};
 pub use places::{deeper_is_same, places_are_shifted};
-pub use regions::{region_is_local, regions_are_solved, regions_respond_as_whole};
+pub use regions::{region_is_local, regions_are_solved};
 pub use roots::{
     left_whole_is_same, parted_outputs_are_unjoined, whole_stands_for_cell,
     whole_stands_for_unjoined_outputs,
 };
-pub use solutions::{one_state_says_all, solution_from_whole, solution_of_whole};
+pub use solutions::one_state_says_all;

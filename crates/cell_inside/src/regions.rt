@@ -1,6 +1,5 @@
 //! Regions of a circuit: sets of plain nets whose responses the bits of some observed nets settle.
 
-ghost use Rattle.cell_inside.specs.Assured.{RegionsRespondAsWhole};
 ghost use Rattle.cell_inside.specs.Regions.{RegionIsLocal, RegionsAreSolved};
 
 /// The nets of a region respond alike in two states in which its base has the same bits, whatever else the states say.
@@ -13,11 +12,4 @@ pub fn region_is_local()
 /// it by a bit, a fight or a float.
 pub fn regions_are_solved()
     ensures { RegionsAreSolved }
-{}
-
-/// Where the bases of such regions show their bits with the cell whole, or inside the cell beside no output that fights, each
-/// solution of the circuit with the cell in it has these bits, and each net outside that is in a region always responds there
-/// as it does with the cell whole.
-pub fn regions_respond_as_whole()
-    ensures { RegionsRespondAsWhole }
 {}

@@ -5,7 +5,6 @@ use Rattle.std.proofs.lemmas.List.Quantifiers.{position-Some}
 use Rattle.std.proofs.lemmas.List.{length-map}
 use Rattle.std.proofs.lemmas.Option.{none-some}
 use Rattle.blif_flat.proofs.NetworkBits.{one_bit_each}
-use Rattle.blif_flat.specs.Network.{HasOneBitEach}
 use Rattle.cell_room.proofs.InstanceLaws.{all_sound}
 use Rattle.cell_room.proofs.PairedInputs.{circuit_nets, output_below, paired_inputs}
 use Rattle.cell_room.specs.Compared.{AreInputs, IsFlattened, comparison}
@@ -20,6 +19,7 @@ use Rattle.vrt_model.proofs.Members.{all_by, among_map}
 use Rattle.vrt_model.specs.Comparison.{is_observed, phase_at}
 use Rattle.vrt_model.specs.Elements.{element_names}
 use Rattle.vrt_model.specs.FlatCircuit.{flat_circuit_of, flat_instance, flat_instances, net_id}
+use Rattle.vrt_model.specs.FlatModels.{HasOneBitEach}
 use Rattle.vrt_model.specs.Groups.{Placed, element_of, group_of, groups_of, holds_by_net, leaders}
 use Rattle.vrt_model.specs.Lists.{Among}
 use Rattle.vrt_model.specs.Unrolled.{Place, Top, all_places}

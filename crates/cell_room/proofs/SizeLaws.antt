@@ -1,26 +1,23 @@
 -- How many elements a model has, and how large the store of a comparison is.
-use Rattle.std.proofs.Common.{◌≡◌, ℕ, suc, ◌+◌, ◌<◌, ◌≤◌, List, [], ◌∷◌, ◌++◌, map, length, Some, None, arith, ap, subst, sym, refl, ◌⊎◌, inl, inr, ◌*◌}
+use Rattle.std.proofs.Common.{◌≡◌, ℕ, suc, ◌+◌, ◌<◌, ◌≤◌, List, [], ◌∷◌, ◌++◌, map, length, Some, None, arith, ap, subst, sym, refl, ◌*◌}
 use Rattle.std.specs.Prelude.{All, cond, filter_map, flat_map, min}
 use Rattle.std.proofs.Math.Nat.{min-le_right}
 use Rattle.std.specs.List.{enumerate_from}
-use Rattle.std.proofs.lemmas.Bool.{cases_lt}
 use Rattle.std.proofs.lemmas.List.{length-append, length-map}
 use Rattle.std.proofs.lemmas.List.Elements.{All-head, All-tail}
-use Rattle.std.proofs.lemmas.Option.{slice_get_within}
-use Rattle.cell_room.specs.Sizes.{AreWithinTo, elements_in}
+use Rattle.cell_room.specs.Sizes.{elements_in}
 use Rattle.cell_room.specs.Works.{AreVars, AreWithin}
 use Rattle.phase_open.specs.Given.{AreFew}
 use Rattle.phase_terms.specs.Ready.{IsReady}
 use Rattle.phase_terms.specs.Stores.{counts_of, most_model_words}
 use Rattle.phase_terms.specs.declared.words.WordCounts.{WordCounts}
-use Rattle.vrt_model.proofs.Lists.{at_there, one_at}
+use Rattle.vrt_model.proofs.Lists.{at_there}
 use Rattle.vrt_model.proofs.Members.{all_among, all_by}
 use Rattle.vrt_model.proofs.ElementCounts.{names_count}
 use Rattle.vrt_model.specs.Circuits.{IsCircuit, IsWhole}
 use Rattle.vrt_model.specs.Comparison.{Comparison}
-use Rattle.vrt_model.specs.Elements.{element_count, element_names, names_by_kind, signal_name}
+use Rattle.vrt_model.specs.Elements.{element_names, names_by_kind, signal_name}
 use Rattle.vrt_model.specs.Held.{sources_of}
-use Rattle.vrt_model.specs.Lists.{At}
 use Rattle.vrt_model.specs.Variables.{is_free, is_input, places, variables_of}
 use Rattle.vrt_model.specs.declared.circuit.Circuit.{Circuit}
 use Rattle.vrt_model.specs.declared.circuit.FlatNet.{FlatNet}
@@ -99,18 +96,6 @@ module _ (k : Comparison) (vars : List Vars) (are : AreVars k (length k.rules.ph
       (ready.circuit.net_limit, subst (λ (c : WordCounts). c.pins ≤ 1000000) is pins, models_few k.circuit.wholes (whole_signals k.circuit ready.circuit), ready.model.signal_limit, (let low = few_elements ready.rules.some_phase in omega (arith, low)), few)
 
 -- ---- the greatest count
-
-pub within_more : (vars : List Vars) (upto most other : ℕ) (one : Vars) → AreWithinTo vars upto most → At vars upto one → most ≤ other → length one.sources ≤ other → AreWithinTo vars (upto + 1) other
-within_more vars upto most other one within here le one_le p v lt at = by_place (cases_lt p upto)
-  where
-    by_place : (p < upto) ⊎ (upto ≤ p) → length v.sources ≤ other
-    by_place (inl less) = let low = within p v less at in omega (arith, low, le)
-    by_place (inr ge) =
-        let same : p ≡ upto = omega (arith, lt, ge) in
-        subst (λ (x : Vars). length x.sources ≤ other) (one_at vars upto one v here (subst (λ (n : ℕ). At vars n v) same at)) one_le
-
-pub within_all : (vars : List Vars) (upto most : ℕ) → AreWithinTo vars upto most → length vars ≤ upto → (p : ℕ) (v : Vars) → At vars p v → length v.sources ≤ most
-within_all vars upto most within all p v at = let low = slice_get_within vars p v at in within p v (omega (arith, low, all)) at
 
 -- ---- the words of a phase
 

@@ -1,6 +1,6 @@
 //! The output ports of a cell, and which of them are alone inside it.
 
-ghost use Rattle.std.specs.Prelude.{◌≡◌, ◌<◌, All, IfOk, length, map};
+ghost use Rattle.std.specs.Prelude.{◌<◌, All, IfOk, length, map};
 ghost use Rattle.cell_room.specs.Planned.{ArePhases};
 ghost use Rattle.lone_outputs.specs.Lone.{AreLoneBefore, AreOutputNets};
 ghost use Rattle.phase_terms.specs.Ready.{IsReady, comparison_in};

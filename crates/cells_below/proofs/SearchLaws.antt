@@ -7,6 +7,7 @@ use Rattle.std.proofs.lemmas.List.{get_or-set_same, get_or-set_other, map_more, 
 use Rattle.std.proofs.lemmas.Option.{slice_get_within}
 use Rattle.names.proofs.PlaceLaws.{placed_within}
 use Rattle.vrt_model.proofs.Lists.{at_front, at_last}
+use Rattle.vrt_model.proofs.Members.{among_left, among_right}
 use Rattle.vrt_model.specs.Comparison.{cell_at}
 use Rattle.vrt_model.specs.Hierarchy.{cells_in}
 use Rattle.vrt_model.specs.Lists.{At, Among}
@@ -93,16 +94,6 @@ met_none marks met = record {
   none : (n i : ℕ) → At [] i n → is_marked marks n ≡ true
   none n i e = cc
 
-behind_all : {X : Type 0} (xs ys : List X) (i : ℕ) (x : X) → At ys i x → Among (xs ++ ys) x
-behind_all [] ys i x e = (i, e)
-behind_all (z ∷ xs) ys i x e = let rest = behind_all xs ys i x e in (suc rest.0, rest.1)
-
-in_front : {X : Type 0} (xs ys : List X) (x : X) → Among xs x → Among (xs ++ ys) x
-in_front xs ys x a = (a.0, at_front xs ys a.0 x a.1)
-
-in_rest : {X : Type 0} (xs ys : List X) (x : X) → Among ys x → Among (xs ++ ys) x
-in_rest xs ys x a = behind_all xs ys a.0 x a.1
-
 pub met_more : (a b c : List Bool) (p q r xs ys : List ℕ) → HasMet a b p q xs → HasMet b c q r ys → HasMet a c p r (xs ++ ys)
 met_more a b c p q r xs ys first second = record {
   size = second.size ∙ first.size;
@@ -112,14 +103,14 @@ met_more a b c p q r xs ys first second = record {
   fresh = λ n e. elim (second.fresh n e) [
     | inl old ↦ elim (first.fresh n old) [
       | inl older ↦ inl older
-      | inr new ↦ inr (in_front xs ys n new.0, (new.1.0, new.1.1, second.front new.1.0 n new.1.2))
+      | inr new ↦ inr (among_left xs ys n new.0, (new.1.0, new.1.1, second.front new.1.0 n new.1.2))
     ]
-    | inr new ↦ inr (in_rest xs ys n new.0, (new.1.0, omega (arith, first.longer, new.1.1), new.1.2))
+    | inr new ↦ inr (among_right xs ys n new.0, (new.1.0, omega (arith, first.longer, new.1.1), new.1.2))
   ];
   front = λ i n e. second.front i n (first.front i n e);
   behind = λ i n e. elim (second.behind i n e) [
-    | inl old ↦ elim (first.behind i n old) [ inl older ↦ inl older | inr new ↦ inr (in_front xs ys n new) ]
-    | inr new ↦ inr (in_rest xs ys n new)
+    | inl old ↦ elim (first.behind i n old) [ inl older ↦ inl older | inr new ↦ inr (among_left xs ys n new) ]
+    | inr new ↦ inr (among_right xs ys n new)
   ];
 } where
   either : (i n : ℕ) → At xs i n ⊎ Among ys n → n < length a → is_marked c n ≡ true

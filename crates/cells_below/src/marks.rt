@@ -1,9 +1,8 @@
 //! The cells that stand in one, by a search down from it.
 
-ghost use Rattle.std.specs.Prelude.{◌≡◌, ◌<◌, ◌↔◌, ℕ, ◌++◌, ◌∷◌, [], Some, true, false, length, get_or, replicate, slice_get, unwrap_or, IfOk, OnOk};
+ghost use Rattle.std.specs.Prelude.{◌≡◌, ◌<◌, ◌↔◌, ℕ, ◌++◌, ◌∷◌, [], Some, true, false, length, replicate, slice_get, IfOk, OnOk};
 ghost use Rattle.cells_below.specs.Below.{AreNumbered};
 ghost use Rattle.cells_below.specs.Met.{HasMet, is_marked, number_in, numbers_on};
-ghost use Rattle.rule_index.specs.Firsts.{value_in};
 ghost use Rattle.vrt_model.specs.Comparison.{cell_at};
 ghost use Rattle.vrt_model.specs.Hierarchy.{cells_in};
 ghost use Rattle.vrt_model.specs.Nesting.{IsWithin};

@@ -1,5 +1,5 @@
 -- A checked circuit has the nets, as many holds and the groups of the flat one, some of its instances, and is well formed.
-use Rattle.std.proofs.Common.{◌≡◌, ℕ, suc, ◌<◌, ◌≤◌, not, cond, Bool, true, false, List, [], ◌∷◌, drop, length, ap, sym, subst, ◌∙◌, arith, ◌⊎◌}
+use Rattle.std.proofs.Common.{◌≡◌, ℕ, suc, ◌<◌, ◌≤◌, not, cond, Bool, true, false, List, [], ◌∷◌, drop, length, ap, sym, subst, ◌∙◌, arith}
 use Rattle.std.specs.Prelude.{All, filter}
 use Rattle.std.proofs.lemmas.List.{length-map}
 use Rattle.checked_cells.proofs.WholeLaws.{ranges}
@@ -19,6 +19,7 @@ use Rattle.vrt_model.specs.Comparison.{Comparison}
 use Rattle.vrt_model.specs.Cut.{Cut, is_inside_whole}
 use Rattle.vrt_model.specs.FlatCircuit.{flat_circuit_of, flat_holds, flat_instance, flat_instances}
 use Rattle.vrt_model.specs.Groups.{groups_of}
+use Rattle.vrt_model.specs.Levels.{IsSourceLevel}
 use Rattle.vrt_model.specs.Lists.{Among, At}
 use Rattle.vrt_model.specs.Unrolled.{Place, Top, all_places}
 use Rattle.vrt_model.specs.declared.blif.Blif.{Blif}
@@ -121,7 +122,7 @@ module _ (k : Comparison) (cut : Cut) (blif : Blif) (facts : List CellFacts) (c 
             (all_among (IsNet (flat_circuit_of t)) i.ports net (all_among (λ (x : FlatInstance). All (IsNet (flat_circuit_of t)) x.ports) (flat_circuit_of t).instances i h.formed.instances (instance_flat i on)) there)));
         wholes = good.wholes;
         one_hold = one_hold_each;
-        source = subst (λ (level : ℕ). (level ≡ 8) ⊎ (level ≡ 15)) (flat_source t ∙ sym h.circuit.source) h.formed.source;
+        source = subst IsSourceLevel (flat_source t ∙ sym h.circuit.source) h.formed.source;
       }
 
 pub checked_circuits_share : CheckedCircuitsShare

@@ -56,10 +56,6 @@ names_long : (xs : List Step) → length (path_names xs) ≡ length xs
 names_long [] = refl
 names_long (x ∷ xs) = ap suc (names_long xs)
 
-names_joined : (xs ys : List Step) → path_names (xs ++ ys) ≡ path_names xs ++ path_names ys
-names_joined [] ys = refl
-names_joined (x ∷ xs) ys = ap (λ (ns : Names). x.instance ∷ ns) (names_joined xs ys)
-
 names_dropped : (k : ℕ) (xs : List Step) → path_names (drop k xs) ≡ drop k (path_names xs)
 names_dropped zero xs = refl
 names_dropped (suc k) [] = refl

@@ -1,44 +1,20 @@
 -- What is said of a fault in a circuit of a chain, and of the same place in the flat circuit.
-use Rattle.std.specs.Prelude.{◌≡◌, ◌↔◌, ℕ, List, Option, Bool}
+use Rattle.std.specs.Prelude.{◌≡◌, List}
 use Rattle.checked_chain.specs.Holds.{IsOfChain}
 use Rattle.vrt_model.specs.Assignment.{Assignment}
 use Rattle.vrt_model.specs.Checked.{with_circuit}
 use Rattle.vrt_model.specs.CheckedVerdicts.{IsSamePlace}
 use Rattle.vrt_model.specs.Comparison.{Comparison}
 use Rattle.vrt_model.specs.Cut.{Cut}
-use Rattle.vrt_model.specs.Faults.{Assigns, IsPrintedWith, Solves, Stands, WantsValue, place_name}
+use Rattle.vrt_model.specs.Faults.{Assigns, IsPrintedWith, Solves}
 use Rattle.vrt_model.specs.Held.{setting_of}
 use Rattle.vrt_model.specs.Places.{Finding}
 use Rattle.vrt_model.specs.Reading.{Partial}
-use Rattle.vrt_model.specs.State.{Setting}
 use Rattle.vrt_model.specs.Verdicts.{Describes}
 use Rattle.vrt_model.specs.declared.blif.Blif.{Blif}
 use Rattle.vrt_model.specs.declared.circuit.Circuit.{Circuit}
 use Rattle.vrt_model.specs.declared.verdict.FaultAt.{FaultAt}
-use Rattle.vrt_model.specs.declared.verdict.FaultKind.{FaultKind}
-use Rattle.vrt_model.specs.declared.verdict.FaultKind.TheVariants.{Constraint}
 use Rattle.vrt_model.specs.declared.whole.CellFacts.{CellFacts}
-
--- The law: places that are one have one name.
-abbrev pub PlaceNamesAreSame : Type 0
-PlaceNamesAreSame =
-    (k : Comparison) (blif : Blif) (facts : List CellFacts) (cut : Cut) (c : Circuit) → IsOfChain k blif facts cut c
-    → (kind : FaultKind) (at there : ℕ) → IsSamePlace cut kind at there → place_name (with_circuit k c) kind there ≡ place_name k kind at
-
--- The law: what a partial assignment ought to give a net, for a fault at such a place, is the same.
-abbrev pub WantsAreSame : Type 0
-WantsAreSame =
-    (k : Comparison) (blif : Blif) (facts : List CellFacts) (cut : Cut) (c : Circuit) → IsOfChain k blif facts cut c
-    → (kind : FaultKind) (at there : ℕ) → IsSamePlace cut kind at there
-    → (phase : ℕ) (a : Partial) (g : Assignment) (n : ℕ) (w : Option Bool)
-    → WantsValue (with_circuit k c) phase a g kind there n w ↔ WantsValue k phase a g kind at n w
-
--- The law: a constraint of an instance is broken in the one where it is in the other.
-abbrev pub BrokenConstraintsMove : Type 0
-BrokenConstraintsMove =
-    (k : Comparison) (blif : Blif) (facts : List CellFacts) (cut : Cut) (c : Circuit) → IsOfChain k blif facts cut c
-    → (at there : ℕ) → IsSamePlace cut Constraint at there → (phase : ℕ) (setting : Setting) (a : Partial) (g : Assignment)
-    → Stands (with_circuit k c) phase setting a g Constraint there ↔ Stands k phase setting a g Constraint at
 
 -- two findings are of one kind, at one place and at one valuation
 pub record IsSameFinding (cut : Cut) (flat f : Finding) : Type 0 where

@@ -12,9 +12,7 @@ mod steps;
 
 pub use arcs::{arcs_are_of_choice, chain_is_acyclic, circuits_are_acyclic};
 pub use drives::drives_stay;
-pub use findings::{
-    broken_constraints_move, descriptions_move, place_names_are_same, wants_are_same,
-};
+pub use findings::descriptions_move;
 pub use holds::{
     chain_keeps_holds, constraints_are_same, ends_stay_shown, groups_are_same, settings_are_same,
     variables_are_same,

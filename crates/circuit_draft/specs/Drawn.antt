@@ -1,5 +1,6 @@
 -- A circuit as it begins, and with one net, device or hold more.
 use Rattle.std.specs.Prelude.{◌≡◌, ℕ, Bool, true, false, ◌++◌, ◌∷◌, []}
+use Rattle.vrt_model.specs.Levels.{most_source, usual_source}
 use Rattle.vrt_model.specs.declared.circuit.Circuit.{Circuit}
 use Rattle.vrt_model.specs.declared.circuit.FlatNet.{FlatNet}
 use Rattle.vrt_model.specs.declared.circuit.HoldEnd.TheVariants.{Own}
@@ -15,11 +16,11 @@ unnamed kind = record { name = []; kind = kind }
 
 -- the low supply, the high one, and nothing more, at the scale of eight levels
 abbrev pub supplies : Circuit
-supplies = record { nets = unnamed (Supply false) ∷ unnamed (Supply true) ∷ []; devices = []; holds = []; instances = []; wholes = []; source = 8 }
+supplies = record { nets = unnamed (Supply false) ∷ unnamed (Supply true) ∷ []; devices = []; holds = []; instances = []; wholes = []; source = usual_source }
 
 -- at the scale of fifteen levels
 abbrev pub HasFifteenLevels : Circuit → Circuit → Type 0
-HasFifteenLevels old new = new ≡ record old { source = 15 }
+HasFifteenLevels old new = new ≡ record old { source = most_source }
 
 -- a net of a kind, at the end
 abbrev pub HasNet : NetKind → Circuit → Circuit → Type 0

@@ -5,7 +5,10 @@ ghost use Rattle.std.specs.Prelude.{◌≡◌, ◌<◌, ◌^◌, ◌++◌, ◌�
 ghost use Rattle.circuit_draft.specs.Drawn.{supplies, HasFifteenLevels, HasNet, HasDevice, HasInverter, HasHold};
 
 use std::alloc::Global;
-use vrt_model::{Circuit, Device, FlatNet, Hold, HoldEnd, Kind, Net, NetKind, NoMemory, Seq, Text};
+use vrt_model::{
+    Circuit, Device, FlatNet, Hold, HoldEnd, Kind, MOST_SOURCE, Net, NetKind, NoMemory, Seq, Text,
+    USUAL_SOURCE,
+};
 
 /// The low supply of a drawn circuit.
 pub const LOW: Net = Net(0);
@@ -34,7 +37,7 @@ impl Draft {
                 holds: Seq::new(alloc),
                 instances: Seq::new(alloc),
                 wholes: Seq::new(alloc),
-                source: 8,
+                source: USUAL_SOURCE,
             },
             alloc,
         };
@@ -47,7 +50,7 @@ impl Draft {
     pub fn widen(&mut self)
         ensures { HasFifteenLevels self.old.circuit self.new.circuit }
     {
-        self.circuit.source = 15;
+        self.circuit.source = MOST_SOURCE;
     }
 
     /// Adds a net and gives its number.

@@ -12,7 +12,7 @@ use Rattle.channel_parts.specs.PartLists.{AreParts}
 use Rattle.channel_parts.specs.declared.part.Part.{Part}
 use Rattle.channel_parts.specs.declared.part.Parts.{Parts}
 use Rattle.circuit_faults.proofs.FreeParts.{first_free, free_here}
-use Rattle.circuit_faults.proofs.KeptMeaning.{IsFreeNet, faulty_stands, idle_clear, no_fight, response_is, settled_clear, shown_value, stands_faulty}
+use Rattle.circuit_faults.proofs.KeptMeaning.{IsFreeNet, faulty_stands, idle_clear, no_fight, settled_clear, shown_value, stands_faulty}
 use Rattle.circuit_faults.proofs.KeptSpots.{fight_spot, spot, spot_place, unsettled_spot}
 use Rattle.circuit_faults.proofs.KeptWords.{gates_shown}
 use Rattle.circuit_faults.specs.Ordered.{IsWholePart}
@@ -36,15 +36,17 @@ use Rattle.circuit_faults.specs.Scans.{IsInEarlier, free_part}
 use Rattle.circuit_faults.specs.declared.kept_net.KeptFault.{KeptFault}
 use Rattle.circuit_faults.specs.declared.spans.KeptSpans.{KeptSpans}
 use Rattle.fault_places.specs.Searches.{Spot}
-use Rattle.hold_keep.specs.Kept.{is_bit, is_fight, response_by}
+use Rattle.hold_keep.specs.Kept.{is_bit, is_fight}
 use Rattle.path_fixpoint.specs.Parts.{IsPart}
 use Rattle.path_fixpoint.specs.Solved.{network_at}
 use Rattle.vrt_model.proofs.Filtered.{device_among}
 use Rattle.vrt_model.proofs.Members.{among_any, any_among}
+use Rattle.vrt_model.proofs.Tables.{response_of}
 use Rattle.vrt_model.specs.Known.{IsPlain}
 use Rattle.vrt_model.specs.Networks.{HasRanges}
 use Rattle.vrt_model.specs.Lists.{At, Among}
 use Rattle.vrt_model.specs.Reading.{kept}
+use Rattle.vrt_model.specs.Signals.{response_by}
 use Rattle.vrt_model.specs.Solution.{AlwaysResponds}
 use Rattle.vrt_model.specs.declared.circuit.Circuit.{Circuit}
 use Rattle.vrt_model.specs.declared.circuit.Device.{Device}
@@ -198,7 +200,7 @@ module _ (c : Circuit) (phase : Phase) (observed : ℕ → Bool) (wholes : HasSo
           (λ m. shows old spans.gates m v.valuation)
           (λ d m. clear.bits v.valuation v.setting v.solution met v.solved d.gate.0 (gates_seen d (device_among kept c d (whole.devices d m).0).0)) n
           (response_by (reach_at mid spans false n v.valuation) (reach_at mid spans true n v.valuation)) r.4).1
-          (response_is (network_at old c part spans.gates spans.roots v.valuation) n (reach_at mid spans false n v.valuation) (reach_at mid spans true n v.valuation)
+          (response_of (network_at old c part spans.gates spans.roots v.valuation) n (reach_at mid spans false n v.valuation) (reach_at mid spans true n v.valuation)
           (r.5.reaches false v.valuation) (r.5.reaches true v.valuation))
 
       -- a net that is settled where it is loose has no fault

@@ -13,7 +13,7 @@ use Rattle.circuit_faults.proofs.Solutions.{given_bit, given_shows, some_state, 
 use Rattle.circuit_faults.specs.Faults.{HasFixedBits, IsSolvedAt}
 use Rattle.circuit_faults.specs.KeptFaults.{HasKeptFault, HasNoKeeper, NeverKeeps}
 use Rattle.circuit_faults.specs.KeptScans.{IsKeptFaulty, IsLoose, IsSettledNet}
-use Rattle.hold_keep.specs.Kept.{fight_of, is_bit, is_fight, response_by}
+use Rattle.hold_keep.specs.Kept.{fight_of, is_bit, is_fight}
 use Rattle.known_nets.proofs.NetKinds.{given_or_plain}
 use Rattle.vrt_model.proofs.GatesGiven.{IsGiven, kept_response}
 use Rattle.vrt_model.proofs.Laws.{one_response}
@@ -24,9 +24,9 @@ use Rattle.whole_steps.proofs.FreeOutputLaws.{free_outputs_show}
 use Rattle.whole_steps.specs.FreeOutputs.{IsFreeOutput}
 use Rattle.whole_steps.specs.Tables.{free_at}
 use Rattle.whole_steps.specs.declared.table.OutputPlace.{OutputPlace}
-use Rattle.vrt_model.specs.Path.{Network}
 use Rattle.vrt_model.specs.Reading.{bare, kept}
-use Rattle.vrt_model.specs.Response.{Fight as Fights, Float as Floats, IsResponse, Reaches, Response, Shows}
+use Rattle.vrt_model.specs.Response.{Fight as Fights, Float as Floats, IsResponse, Response, Shows}
+use Rattle.vrt_model.specs.Signals.{response_by}
 use Rattle.vrt_model.specs.Solution.{Agrees, AlwaysResponds}
 use Rattle.vrt_model.specs.State.{IsState, OutputPin, Setting, State, network_of, output_pins}
 use Rattle.vrt_model.specs.declared.circuit.Circuit.{Circuit}
@@ -35,13 +35,6 @@ use Rattle.vrt_model.specs.declared.verdict.FaultKind.{FaultKind}
 use Rattle.vrt_model.specs.declared.verdict.FaultKind.TheVariants.{Fight, FightKept, Float, Unsettled, Constraint, Differs, Next, Apart, Enter}
 
 -- ---- responses by the values that reach a net
-
--- a net responds by the values that reach it
-pub response_is : (w : Network) (n : ℕ) (zero one : Bool) → ((zero ≡ true) ↔ Reaches w n false) → ((one ≡ true) ↔ Reaches w n true) → IsResponse w n (response_by zero one)
-response_is w n true true zeros ones = (ones.0 refl, zeros.0 refl)
-response_is w n true false zeros ones = (zeros.0 refl, λ r. false≢true (ones.1 r))
-response_is w n false true zeros ones = (ones.0 refl, λ r. false≢true (zeros.1 r))
-response_is w n false false zeros ones = (λ r. false≢true (ones.1 r), λ r. false≢true (zeros.1 r))
 
 fight_is : (r : Response) → is_fight r ≡ true → r ≡ Fights
 fight_is Fights e = refl

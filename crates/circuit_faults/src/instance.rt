@@ -1,6 +1,6 @@
 //! The constraints of one instance.
 
-ghost use Rattle.std.specs.Prelude.{◌≡◌, ℕ, ◌+◌, ◌*◌, ◌<◌, length, IfOk};
+ghost use Rattle.std.specs.Prelude.{◌≡◌, ℕ, ◌<◌, length, IfOk};
 ghost use Rattle.bdd_core.specs.Diagram.{IsWithin};
 ghost use Rattle.bdd_core.specs.Store.{AddsNodes, IsLive, IsSpan, Means, function_of};
 ghost use Rattle.bdd_core.specs.Words.{IsFilled};

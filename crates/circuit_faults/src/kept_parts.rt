@@ -1,6 +1,6 @@
 //! The parts of the kept circuit, solved at every valuation at once; what they say of the nets is copied to the nets.
 
-ghost use Rattle.std.specs.Prelude.{◌≡◌, ◌≢◌, ℕ, ◌+◌, ◌*◌, ◌^◌, ◌<◌, ◌≤◌, [], ◌∷◌, All, length, IfOk, false, is_some, true, slice_set, sum_by};
+ghost use Rattle.std.specs.Prelude.{◌≡◌, ℕ, ◌+◌, ◌*◌, ◌^◌, ◌<◌, ◌≤◌, [], ◌∷◌, All, length, IfOk, false, is_some, true, slice_set, sum_by};
 ghost use Rattle.bdd_core.specs.Store.{IsSpan};
 ghost use Rattle.bdd_core.specs.Words.{IsApart, IsFilled, word_at};
 ghost use Rattle.bdd_ops.specs.Counting.{IsSpanWithin};

@@ -1,6 +1,6 @@
 //! The faults of one net.
 
-ghost use Rattle.std.specs.Prelude.{◌≡◌, ℕ, ◌<◌, length, IfOk};
+ghost use Rattle.std.specs.Prelude.{ℕ, ◌<◌, IfOk};
 ghost use Rattle.bdd_core.specs.Diagram.{IsWithin};
 ghost use Rattle.bdd_core.specs.Store.{IsLive, Means, function_of, AddsNodes};
 ghost use Rattle.bdd_ops.specs.Counting.{Counts};

@@ -3,7 +3,7 @@
 ghost use Rattle.std.specs.Prelude.{◌≡◌, ℕ, ◌+◌, ◌*◌, length, IfOk};
 ghost use Rattle.bdd_core.specs.Diagram.{IsWithin};
 ghost use Rattle.bdd_core.specs.Store.{IsLive, function_of};
-ghost use Rattle.bdd_core.specs.Words.{IsApart, IsFilled, WritesTwo};
+ghost use Rattle.bdd_core.specs.Words.{IsFilled, WritesTwo};
 ghost use Rattle.bdd_ops.specs.Counting.{IsSpanWithin};
 ghost use Rattle.circuit_faults.specs.Scans.{PartGives};
 ghost use Rattle.path_fixpoint.specs.Parts.{AreSoftInside, IsPart};

@@ -71,22 +71,6 @@ module _ (W : Type 0) (Fault : Spot → W → Type 0) (care : W → Bool) (n : �
   found_either f first second kind (inr e) exact none =
       subst (λ (q : FaultKind). IsFoundIn Fault care f (spots_at (first ∷ second ∷ []) n) (spot q n)) (sym e) (found_second f first second (subst (IsExact f) e exact) (none e))
 
--- ---- over other cases
-
-module _ (V W : Type 0) (Here : Spot → V → Type 0) (There : Spot → W → Type 0) (care : V → Bool) (spots : List Spot) (to : W → V)
-    (same : (y : Spot) (w : W) → Among spots y → Here y (to w) ↔ There y w) where
-  pub found_cases : (f : V → Bool) (x : Spot) → IsFoundIn Here care f spots x → IsFoundIn There (λ (w : W). care (to w)) (λ (w : W). f (to w)) spots x
-  found_cases f x found = record {
-    place = found.place;
-    stands = found.stands;
-    exact = λ w.
-        let both = same x w (found.place, found.stands) in (
-          λ e. (let h = (found.exact (to w)).0 e in (h.0, both.0 h.1)),
-          λ h. (found.exact (to w)).1 (h.0, both.1 h.1),
-        );
-    before = λ i y w lt e met h. found.before i y (to w) lt e met ((same y w (i, e)).1 h);
-  }
-
 -- ---- the places of steps
 
 -- a net of a part has a place for each of the two kinds

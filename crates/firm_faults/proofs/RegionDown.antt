@@ -30,6 +30,7 @@ use Rattle.vrt_model.proofs.GatesGiven.{plain_any}
 use Rattle.vrt_model.proofs.Laws.{one_response, turned}
 use Rattle.vrt_model.proofs.Members.{all_among}
 use Rattle.vrt_model.proofs.Networks.{network_finite}
+use Rattle.vrt_model.proofs.Scales.{least_above}
 use Rattle.vrt_model.specs.Checked.{with_circuit}
 use Rattle.vrt_model.specs.Circuits.{IsDevice}
 use Rattle.vrt_model.specs.Comparison.{Comparison, is_observed, phase_at}
@@ -52,7 +53,6 @@ use Rattle.vrt_model.specs.declared.rules.Phase.{Phase}
 use Rattle.vrt_model.specs.declared.whole.Whole.{Whole}
 use Rattle.vrt_model.specs.declared.whole.WholePin.{WholePin}
 use Rattle.whole_solutions.proofs.GivenShow.{given_shows}
-use Rattle.whole_solutions.proofs.LeastLevels.{least_above}
 use Rattle.whole_solutions.proofs.SettledSets.{supply_bit}
 
 module _ (k : Comparison) (phase : ℕ) (setting : Setting) (cell whole_circuit : Circuit) (at place fresh : ℕ → ℕ) (remaining compared cell_observed exposed known : ℕ → Bool)

@@ -1,6 +1,6 @@
 -- A flat circuit in whose way nothing stands is well formed.
-use Rattle.std.proofs.Common.{inl, inr, ◌≡◌, ◌<◌, ◌≤◌, ◌+◌, ◌∷◌, ◌&&◌, [], ℕ, zero, suc, List, Bool, true, false, cond, nat_lt, All, map, length, Option, Some, None, refl, ap, sym, subst, ◌∙◌, arith, ltb-false}
-use Rattle.std.specs.Prelude.{◌⊎◌, ◌==◌, bytes_eq, drop, find, option_map, position, unwrap_or}
+use Rattle.std.proofs.Common.{◌≡◌, ◌<◌, ◌≤◌, ◌+◌, ◌∷◌, ◌&&◌, [], ℕ, zero, suc, List, Bool, true, false, cond, nat_lt, All, map, length, Option, Some, None, refl, ap, sym, subst, ◌∙◌, arith, ltb-false}
+use Rattle.std.specs.Prelude.{bytes_eq, drop, find, option_map, position, unwrap_or}
 use Rattle.std.specs.List.{cons_option, filter_map}
 use Rattle.std.specs.Option.{option_or}
 use Rattle.std.proofs.lemmas.List.{length-map}
@@ -12,11 +12,12 @@ use Rattle.flatten.proofs.RangeLaws.{device_named, net_below, ports_in}
 use Rattle.names.proofs.PlaceLaws.{placed_within}
 use Rattle.vrt_model.proofs.Lists.{among_filter_map}
 use Rattle.vrt_model.proofs.Members.{all_among, all_by, among_flat_map, among_map, find_among, find_none}
+use Rattle.vrt_model.proofs.Scales.{circuit_device_level, circuit_hold_size, rules_source, usual_within}
 use Rattle.vrt_model.specs.Circuits.{IsCircuit, IsDevice, IsEnd, IsFlat, IsHold, IsNet, IsWhole}
 use Rattle.vrt_model.specs.Comparison.{cell_at}
 use Rattle.vrt_model.specs.FlatCircuit.{Ruled, end_by, falls_on, flat_circuit_of, flat_device, flat_devices, flat_hold, flat_holds, flat_instance, flat_instances, flat_nets, instance_of, is_outermost, led_up, level_of, match_of, net_id, rule_on, rules_on, same_path}
 use Rattle.vrt_model.specs.Inputs.{AreRules, IsLevel}
-use Rattle.vrt_model.specs.Levels.{IsDeviceLevel, least_level, least_of, source_level, source_of, usual_level}
+use Rattle.vrt_model.specs.Levels.{IsHoldSizeAt, source_of, usual_level}
 use Rattle.vrt_model.specs.Lists.{Among, At}
 use Rattle.vrt_model.specs.Unrolled.{Place, Step, Top, all_places, net_at}
 use Rattle.vrt_model.specs.Unsupported.{Limit, carried, circuit_limits, too_large}
@@ -57,42 +58,13 @@ found_level {X} rules f p xs all n e = by_found (find p xs) refl e where
 level_by : (rules : Rules) (a b : Option ℕ) → ((n : ℕ) → a ≡ Some n → IsLevel rules n) → ((n : ℕ) → b ≡ Some n → IsLevel rules n) → IsLevel rules (unwrap_or (option_or a b) (usual_level rules))
 level_by rules (Some n) b first second = first n refl
 level_by rules None (Some n) first second = second n refl
-level_by rules None None first second = by_scale (rules.scale == 16) where
-  by_scale : (fine : Bool) → (cond fine 6 4 ≤ cond fine 10 6) × (cond fine 10 6 < cond fine 15 8)
-  by_scale true = (omega arith, omega arith)
-  by_scale false = (omega arith, omega arith)
+level_by rules None None first second = usual_within rules
 
 level_within : (rules : Rules) (name device model : List ℕ) → AreRules rules → IsLevel rules (level_of rules name device model)
 level_within rules name device model are =
     level_by rules _ _
     (found_level rules (λ (r : StrengthRule). r.level) (λ (r : StrengthRule). bytes_eq r.cell name && bytes_eq r.device device) rules.strengths are.strength_levels)
     (found_level rules (λ (r : DeviceRule). r.level) (λ (r : DeviceRule). bytes_eq r.model model) rules.devices are.device_levels)
-
--- the levels of a circuit are those of its rules
-circuit_least : (c : Circuit) (rules : Rules) → c.source ≡ source_of rules → least_level c ≡ least_of rules
-circuit_least c rules e = ap (λ (s : ℕ). cond (s == 15) 6 4) e ∙ by_scale (rules.scale == 16) where
-  by_scale : (fine : Bool) → ◌≡◌ {A = ℕ} (cond (cond fine 15 8 == 15) 6 4) (cond fine 6 4)
-  by_scale true = refl
-  by_scale false = refl
-
-circuit_source : (c : Circuit) (rules : Rules) → c.source ≡ source_of rules → source_level c ≡ source_of rules
-circuit_source c rules e = ap (λ (s : ℕ). cond (s == 15) 15 8) e ∙ by_scale (rules.scale == 16) where
-  by_scale : (fine : Bool) → ◌≡◌ {A = ℕ} (cond (cond fine 15 8 == 15) 15 8) (cond fine 15 8)
-  by_scale true = refl
-  by_scale false = refl
-
-device_level_within : (c : Circuit) (rules : Rules) (level : ℕ) → c.source ≡ source_of rules → IsLevel rules level → IsDeviceLevel c level
-device_level_within c rules level e is =
-    let least = circuit_least c rules e in
-    let source = circuit_source c rules e in
-    let low = is.0 in
-    let high = is.1 in (omega (arith, least, low), omega (arith, source, high))
-
-source_either : (rules : Rules) → (source_of rules ≡ 8) ⊎ (source_of rules ≡ 15)
-source_either rules = by_scale (rules.scale == 16) where
-  by_scale : (fine : Bool) → (◌≡◌ {A = ℕ} (cond fine 15 8) 8) ⊎ (◌≡◌ {A = ℕ} (cond fine 15 8) 15)
-  by_scale true = inr refl
-  by_scale false = inl refl
 
 -- ---- holds
 
@@ -181,11 +153,7 @@ module _ (t : Top) where
     hold_is : AreRules t.rules → (n : ℕ) (r : Ruled) → n < length c.nets → rule_on t n ≡ Some r → IsHold c (flat_hold t n r)
     hold_is ruled n r lt e = record {
       net = lt;
-      size =
-          let is = all_among (λ (h : HoldRule). (1 ≤ h.size) × (h.size < least_of t.rules)) t.rules.holds r.rule ruled.sizes (rule_among n r e) in
-          let least = circuit_least c t.rules source in
-          let low = is.0 in
-          let high = is.1 in (low, omega (arith, least, high));
+      size = circuit_hold_size c t.rules source r.rule.size (all_among (λ (h : HoldRule). IsHoldSizeAt t.rules.scale h.size) t.rules.holds r.rule ruled.sizes (rule_among n r e));
       end = end_is n r (match_of t.rules r.rule) lt;
     }
 
@@ -205,7 +173,7 @@ module _ (t : Top) where
           gate = within card.gate (1, refl);
           left = within card.drain (0, refl);
           right = within card.source (2, refl);
-          level = device_level_within c t.rules (level_of t.rules (cell_at t.design at.cell).name card.name card.model) source (level_within t.rules (cell_at t.design at.cell).name card.name card.model ruled);
+          level = circuit_device_level c t.rules source (level_of t.rules (cell_at t.design at.cell).name card.name card.model) (level_within t.rules (cell_at t.design at.cell).name card.name card.model ruled);
         }
 
     devices_are : AreRules t.rules → All (IsDevice c) (flat_devices t)
@@ -232,7 +200,7 @@ module _ (t : Top) where
   pub formed : AreRules t.rules → too_large (circuit_limits t) ≡ None → IsCircuit (flat_circuit_of t)
   unfolding flat_circuit_of
   formed ruled none = record {
-    source = source_either t.rules;
+    source = rules_source t.rules;
     net_limit = small (circuit_limits t) (record { count = length (flat_nets t); limit = 20000 }) none (0, refl);
     device_limit = small (circuit_limits t) (record { count = length (flat_devices t); limit = 40000 }) none (1, refl);
     instance_limit = small (circuit_limits t) (record { count = length (flat_instances t); limit = 40000 }) none (2, refl);

@@ -1,5 +1,5 @@
 -- The unrolled cells of a cell, by what is told of them: their devices, and which supplies their ports are tied to.
-use Rattle.std.specs.Prelude.{◌≡◌, ℕ, zero, suc, List, [], ◌∷◌, map, find, is_none, Bool, true, false, cond, Option, Some, None, unwrap_or, slice_get, position, bytes_eq, ◌==◌}
+use Rattle.std.specs.Prelude.{ℕ, zero, suc, List, [], ◌∷◌, map, find, is_none, Bool, true, false, cond, Option, Some, None, unwrap_or, slice_get, position, bytes_eq, ◌==◌}
 use Rattle.std.specs.Option.{option_or}
 use Rattle.flat_devices.specs.DeviceTables.{first_some}
 pub use Rattle.flat_sizes.specs.Totals.{AreNumbered}

@@ -7,7 +7,8 @@ use Rattle.bdd_core.specs.declared.handle.Spent.{Spent}
 use Rattle.bdd_ops.proofs.WithinLaws.{within_choice, within_implies, within_same}
 use Rattle.bdd_ops.specs.Ops.{and_of, implies_of}
 use Rattle.bdd_core.proofs.Frames.{gives_next, gives_refused, handle_stays}
-use Rattle.hold_keep.specs.Kept.{KeptGive, fails_of, fight_of, is_bit, is_fight, response_by, unsettled_of}
+use Rattle.hold_keep.specs.Kept.{KeptGive, fails_of, fight_of, is_bit, is_fight, unsettled_of}
+use Rattle.vrt_model.specs.Signals.{response_by}
 
 -- ---- bits
 

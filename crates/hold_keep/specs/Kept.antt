@@ -5,14 +5,8 @@ use Rattle.bdd_core.specs.Store.{AddsNodes, Diagrams, Means}
 use Rattle.bdd_core.specs.declared.handle.Spent.{Spent}
 use Rattle.vrt_model.specs.Lists.{differ}
 use Rattle.vrt_model.specs.Response.{Fight, Float, Response, Shows}
+use Rattle.vrt_model.specs.Signals.{response_by}
 use Rattle.hold_keep.specs.declared.kept.KeptFaults.{KeptFaults}
-
--- the response of a net, by whether 0 and 1 reach it
-abbrev pub response_by : Bool → Bool → Response
-response_by true true = Fight
-response_by true false = Shows false
-response_by false true = Shows true
-response_by false false = Float
 
 abbrev pub is_fight : Response → Bool
 is_fight Fight = true

@@ -1,6 +1,6 @@
 //! The faults of a net in the kept circuit, by which values reach it there.
 
-ghost use Rattle.std.specs.Prelude.{◌≡◌, ℕ};
+ghost use Rattle.std.specs.Prelude.{ℕ};
 ghost use Rattle.bdd_core.specs.Diagram.{IsWithin};
 ghost use Rattle.bdd_core.specs.Store.{IsLive, function_of, Gives};
 ghost use Rattle.bdd_ops.specs.Counting.{Counts};

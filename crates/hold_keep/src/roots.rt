@@ -1,13 +1,13 @@
 //! The held values of the holds of a circuit, written into the words of their nets.
 
-ghost use Rattle.std.specs.Prelude.{◌≡◌, ℕ, ◌*◌, ◌≤◌, Bool, false, IfErr, IfOk, length};
+ghost use Rattle.std.specs.Prelude.{◌≡◌, ℕ, ◌*◌, ◌≤◌, false, IfErr, IfOk, length};
 ghost use Rattle.bdd_core.specs.Diagram.{IsWithin, Valuation};
 ghost use Rattle.bdd_core.specs.Store.{IsLive, IsSpan, function_of};
 ghost use Rattle.bdd_ops.specs.Counting.{Counts};
 ghost use Rattle.vrt_model.specs.Circuits.{IsCircuit};
-ghost use Rattle.vrt_model.specs.Held.{held_bit, held_in};
+ghost use Rattle.vrt_model.specs.Held.{held_bit};
 ghost use Rattle.hold_groups.specs.Grouped.{AreGroups};
-ghost use Rattle.hold_keep.specs.Rooted.{AreRoots, HaveWords, Rewrites, WritesHolds, bits_at, group_function, held_function, members_in, with_groups, with_hold, with_holds};
+ghost use Rattle.hold_keep.specs.Rooted.{AreRoots, HaveWords, Rewrites, WritesHolds, group_function, held_function, members_in, with_groups, with_hold, with_holds};
 
 use crate::bits::{group_bit, held_bit};
 use bdd_core::{H, Spent, Store};

@@ -35,10 +35,6 @@ module _ (k : Comparison) (paired : IsFreePairing k.model k.rules (cell_at k.des
   abbrev names : List (List ℕ)
   names = (cell_at k.design k.cell).ports
 
-  -- the role of a name
-  abbrev role_at : List ℕ → Option PortRole
-  role_at name = role_of k.model k.rules (cell_at k.design k.cell).name name
-
   -- ---- ports
 
   -- a port of the comparison has the role of its name

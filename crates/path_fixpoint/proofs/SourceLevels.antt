@@ -1,8 +1,8 @@
 -- Where the levels of devices, holds and outputs stand by the source level of their circuit.
 use Rattle.std.proofs.Common.{◌≡◌, ℕ, ◌<◌, ◌≤◌, ◌⊎◌, arith, ap, refl, sym, inl, inr}
-use Rattle.vrt_model.proofs.Scales.{least_below, scale_cases}
+use Rattle.vrt_model.proofs.Scales.{least_above, least_below}
 use Rattle.vrt_model.specs.Circuits.{IsDrive}
-use Rattle.vrt_model.specs.Levels.{IsDeviceLevel, IsHoldSize, least_level, source_level}
+use Rattle.vrt_model.specs.Levels.{IsDeviceLevel, IsHoldSize, source_level}
 use Rattle.vrt_model.specs.Path.{level_of_drive}
 use Rattle.vrt_model.specs.declared.circuit.Circuit.{Circuit}
 use Rattle.vrt_model.specs.declared.whole.Drive.{Drive}
@@ -17,11 +17,8 @@ words_back c out e = let build : ℕ → NetWords = λ source. record { span = o
 pub source_low : (c : Circuit) → 1 ≤ source_level c
 source_low c = let below = least_below c in omega (arith, below)
 
-least_low : (c : Circuit) → 1 ≤ least_level c
-least_low c = elim (scale_cases c) [ inl is ↦ (let least = is.1 in omega (arith, least)) | inr is ↦ (let least = is.1 in omega (arith, least)) ]
-
 pub device_below : (c : Circuit) (level : ℕ) → IsDeviceLevel c level → (1 ≤ level) × (level < source_level c)
-device_below c level is = ((let low = least_low c in let least = is.0 in omega (arith, low, least)), is.1)
+device_below c level is = ((let low = least_above c in let least = is.0 in omega (arith, low, least)), is.1)
 
 pub hold_below : (c : Circuit) (size : ℕ) → IsHoldSize c size → (1 ≤ size) × (size < source_level c)
 hold_below c size is = (is.0, (let least = is.1 in let below = least_below c in omega (arith, least, below)))

@@ -1,6 +1,6 @@
 //! The strengths of the nets of a part, level by level.
 
-ghost use Rattle.std.specs.Prelude.{◌≡◌, ℕ, ◌+◌, ◌*◌, ◌^◌, ◌<◌, ◌≤◌, true, false, length, IfOk};
+ghost use Rattle.std.specs.Prelude.{◌≡◌, ℕ, ◌+◌, ◌*◌, ◌<◌, ◌≤◌, true, false, length, IfOk};
 ghost use Rattle.bdd_core.specs.Diagram.{Valuation};
 ghost use Rattle.bdd_core.specs.Store.{IsSpan};
 ghost use Rattle.vrt_model.specs.Networks.{HasRanges};
@@ -9,7 +9,7 @@ ghost use Rattle.vrt_model.specs.Path.{Network};
 ghost use Rattle.path_fixpoint.specs.Openings.{IsUnused, NoDeviceHas, NoHoldHas, NoPinHas};
 ghost use Rattle.path_fixpoint.specs.Parts.{IsPart, IsPartOf, pins_of};
 ghost use Rattle.path_fixpoint.specs.Strengths.{ChangesLevel, HasLevel, HasSpans, HasWords, StandsAt, TellsStrengths};
-ghost use Rattle.bdd_core.specs.Words.{IsFilled, Writes};
+ghost use Rattle.bdd_core.specs.Words.{Writes};
 ghost use Rattle.bdd_ops.specs.Counting.{IsSpanWithin};
 ghost use Rattle.path_fixpoint.specs.Spending.{Rewrites, Spends};
 

@@ -1,16 +1,13 @@
 //! Where the marks of a level begin.
 
-ghost use Rattle.std.specs.Prelude.{◌≡◌, ◌≢◌, ℕ, ◌+◌, ◌*◌, ◌^◌, ◌<◌, ◌≤◌, ◌⊎◌, ◌↔◌, IsTrue, true, false, length, IfSome, IfOk};
+ghost use Rattle.std.specs.Prelude.{◌≡◌, ◌≢◌, ℕ, ◌+◌, ◌*◌, ◌^◌, ◌<◌, ◌≤◌, ◌↔◌, IsTrue, true, false, length};
 ghost use Rattle.bdd_core.specs.Diagram.{IsWithin, Valuation};
 ghost use Rattle.bdd_core.specs.Store.{IsLive, IsSpan, function_of};
-ghost use Rattle.vrt_model.specs.Circuits.{IsNet};
-ghost use Rattle.vrt_model.specs.Lists.{At};
 ghost use Rattle.vrt_model.specs.Path.{Network};
-ghost use Rattle.vrt_model.specs.declared.circuit.Hold.{Hold as HoldValue};
 ghost use Rattle.path_fixpoint.specs.Openings.{IsGivenAt, IsHoldAt, IsPinAt, OnlyBy, TakesAbove, mark_of};
 ghost use Rattle.path_fixpoint.specs.Parts.{IsGiven, IsPart, IsPlace, IsWithoutGivenEnd, Rises, pins_of};
 ghost use Rattle.path_fixpoint.specs.declared.side.Side.TheVariants.{Outside};
-ghost use Rattle.path_fixpoint.specs.Strengths.{ChangesLevel, HasLevel, HasPaths, HasRoots, HasWords, StandsAt, word_of, HasMarks, net_words};
+ghost use Rattle.path_fixpoint.specs.Strengths.{ChangesLevel, HasLevel, HasPaths, HasRoots, HasWords, StandsAt, HasMarks, net_words};
 ghost use Rattle.bdd_core.specs.Words.{IsFilled, Writes, word_at};
 ghost use Rattle.bdd_ops.specs.Counting.{IsSpanWithin};
 ghost use Rattle.path_fixpoint.specs.Spending.{Rewrites};

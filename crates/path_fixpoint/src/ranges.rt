@@ -1,6 +1,6 @@
 //! Whether a part and the spans of its handles are as `solve_part` asks.
 
-ghost use Rattle.std.specs.Prelude.{◌≡◌, ℕ, ◌+◌, ◌*◌, ◌<◌, ◌≤◌, ◌⊎◌, ◌↔◌, IsTrue, All, length};
+ghost use Rattle.std.specs.Prelude.{◌≡◌, ◌+◌, ◌*◌, ◌<◌, ◌≤◌, ◌⊎◌, ◌↔◌, IsTrue, All, length};
 ghost use Rattle.bdd_core.specs.Store.{IsSpan};
 ghost use Rattle.bdd_core.specs.Words.{IsApart, IsFilled};
 ghost use Rattle.vrt_model.specs.Circuits.{IsNet};

@@ -1,14 +1,13 @@
 //! Rounds over the devices of a part, for the nets that a value reaches.
 
-ghost use Rattle.std.specs.Prelude.{◌≡◌, ℕ, ◌+◌, ◌*◌, ◌^◌, ◌<◌, ◌≤◌, ◌⊎◌, true, false, length, IfOk, IfSome};
+ghost use Rattle.std.specs.Prelude.{◌≡◌, ℕ, ◌+◌, ◌*◌, ◌^◌, ◌<◌, ◌≤◌, false, length, IfOk, IfSome};
 ghost use Rattle.bdd_core.specs.Diagram.{IsWithin, Valuation};
 ghost use Rattle.bdd_core.specs.Store.{IsLive, IsSpan, function_of};
 ghost use Rattle.vrt_model.specs.Lists.{Among};
 ghost use Rattle.vrt_model.specs.Path.{Network};
-ghost use Rattle.vrt_model.specs.declared.circuit.Device.{Device as DeviceValue};
 ghost use Rattle.path_fixpoint.specs.Parts.{part_devices, IsPartOf};
 ghost use Rattle.path_fixpoint.specs.Reaching.{HasReach, HasReachPaths, HasReachRoots, HasRootWords, PassesSignal, SolvedAt, SpreadsValue, slot_of};
-ghost use Rattle.path_fixpoint.specs.Strengths.{ChangesLevel, word_of, net_words};
+ghost use Rattle.path_fixpoint.specs.Strengths.{ChangesLevel, net_words};
 ghost use Rattle.bdd_core.specs.Words.{IsFilled, Writes};
 ghost use Rattle.bdd_ops.specs.Counting.{IsSpanWithin};
 ghost use Rattle.path_fixpoint.specs.Spending.{Spends};
@@ -22,7 +21,7 @@ use crate::steps::{blocks, is_full, place, through, visited, widen, word};
 use crate::words::NetWords;
 use bdd_core::{H, Spent, Store};
 use node_pool::Span;
-use vrt_model::{Circuit, Device, Kind};
+use vrt_model::{Circuit, Device};
 
 /// Passes a signal on over one device, in one direction, and says whether anything changed.
 fn pass(

@@ -1,13 +1,13 @@
 //! Signals of one value: what stands at the end of a channel, and where the strengths let it pass.
 
-ghost use Rattle.std.specs.Prelude.{◌≡◌, ◌≢◌, ℕ, ◌+◌, ◌*◌, ◌^◌, ◌<◌, ◌≤◌, ◌⊎◌, ◌↔◌, true, false, cond, length, List, IfOk, IfSome};
+ghost use Rattle.std.specs.Prelude.{◌≡◌, ℕ, ◌+◌, ◌*◌, ◌^◌, ◌<◌, ◌≤◌, ◌↔◌, true, List, IfOk, IfSome};
 ghost use Rattle.bdd_core.specs.Diagram.{IsWithin, Valuation, meaning};
 ghost use Rattle.bdd_core.specs.Store.{IsLive, IsSpan, Makes, function_of};
 ghost use Rattle.path_fixpoint.specs.Reaching.{FitsAt, bit_is, offered_end, reached_end, slot_of};
-ghost use Rattle.path_fixpoint.specs.Strengths.{strong, strong_end, word_of, net_words};
+ghost use Rattle.path_fixpoint.specs.Strengths.{strong_end, net_words};
 ghost use Rattle.node_pool.specs.declared.region.Node.{Node as NodeValue};
 ghost use Rattle.node_pool.specs.declared.region.Span.{Span as SpanValue};
-ghost use Rattle.bdd_core.specs.Words.{IsFilled, Writes, shows, word_at};
+ghost use Rattle.bdd_core.specs.Words.{IsFilled, Writes, shows};
 ghost use Rattle.bdd_ops.specs.Counting.{IsSpanWithin};
 ghost use Rattle.path_fixpoint.specs.Spending.{Finds};
 

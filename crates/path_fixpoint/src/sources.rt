@@ -1,18 +1,17 @@
 //! The roots of one value: the nets of a part at which a root of the value stands, as strong as its net.
 
-ghost use Rattle.std.specs.Prelude.{IsTrue, ◌≡◌, ◌≢◌, ℕ, ◌+◌, ◌*◌, ◌^◌, ◌<◌, ◌≤◌, ◌⊎◌, ◌↔◌, true, false, length, IfOk, IfSome};
+ghost use Rattle.std.specs.Prelude.{IsTrue, ◌≡◌, ℕ, ◌+◌, ◌*◌, ◌^◌, ◌<◌, ◌≤◌, ◌⊎◌, ◌↔◌, true, false, length, IfOk};
 ghost use Rattle.bdd_core.specs.Diagram.{IsWithin, Valuation};
 ghost use Rattle.bdd_core.specs.Store.{IsLive, IsSpan, function_of};
 ghost use Rattle.vrt_model.specs.Levels.{source_level};
 ghost use Rattle.vrt_model.specs.Lists.{Among};
 ghost use Rattle.vrt_model.specs.Path.{Network};
 ghost use Rattle.vrt_model.specs.declared.whole.WholePin.{WholePin as PinValue};
-ghost use Rattle.path_fixpoint.specs.Openings.{IsGivenAt, IsHoldAt};
 ghost use Rattle.path_fixpoint.specs.Parts.{IsGiven, IsPlace, Rises, IsPartOf, pins_at, pins_of};
 ghost use Rattle.path_fixpoint.specs.Reaching.{HasReachPaths, HasReachRoots, HasRootWords, SolvedAt, slot_of};
 ghost use Rattle.path_fixpoint.specs.Sources.{AddsRoots, HasDriveLevel, IsGivenSource, IsHoldSource, IsPinSource};
 ghost use Rattle.path_fixpoint.specs.Strengths.{ChangesLevel, strong, word_of, HasMarks, net_words};
-ghost use Rattle.bdd_core.specs.Words.{IsApart, IsFilled, Writes, shows, word_at};
+ghost use Rattle.bdd_core.specs.Words.{IsApart, IsFilled, Writes, word_at};
 ghost use Rattle.bdd_ops.specs.Counting.{IsSpanWithin};
 ghost use Rattle.path_fixpoint.specs.Spending.{Finds, HasOneHold, Rewrites, Spends};
 

@@ -1,11 +1,11 @@
 //! Single steps: what a conducting device passes on, and the word that it is added to.
 
-ghost use Rattle.std.specs.Prelude.{IsTrue, ◌≡◌, ◌≢◌, ℕ, ◌+◌, ◌-◌, ◌*◌, ◌^◌, ◌<◌, ◌≤◌, ◌⊎◌, ◌||◌, Bool, true, false, eqb, length, IfOk, IfSome, IsNone, option_map};
-ghost use Rattle.bdd_core.specs.Diagram.{Valuation, IsReduced, IsWithin, meaning};
+ghost use Rattle.std.specs.Prelude.{IsTrue, ◌≡◌, ◌≢◌, ℕ, ◌+◌, ◌-◌, ◌*◌, ◌^◌, ◌<◌, ◌≤◌, true, false, length, IfOk, IfSome, IsNone};
+ghost use Rattle.bdd_core.specs.Diagram.{Valuation, IsWithin};
 ghost use Rattle.bdd_core.specs.Store.{IsLive, IsSpan, Makes, function_of};
 ghost use Rattle.path_fixpoint.specs.Parts.{IsPart, IsPlace, IsVisited, Rises};
 ghost use Rattle.path_fixpoint.specs.Strengths.{strong_end, word_of, net_words};
-ghost use Rattle.bdd_core.specs.Words.{IsFilled, Writes, shows, word_at};
+ghost use Rattle.bdd_core.specs.Words.{IsFilled, Writes, word_at};
 ghost use Rattle.path_fixpoint.specs.Passed.{blocking, gated, IsWider};
 ghost use Rattle.bdd_ops.specs.Counting.{IsSpanWithin};
 ghost use Rattle.path_fixpoint.specs.Spending.{Spends};

@@ -1,31 +1,24 @@
 -- How many nets and devices all parts of the bare or of the kept circuit have, and how many outputs of whole instances stand on them.
-use Rattle.std.proofs.Common.{◌≡◌, ℕ, zero, suc, ◌+◌, ◌-◌, ◌*◌, ◌<◌, ◌≤◌, Bool, List, [], ◌∷◌, take, length, arith, ap, refl, sym, subst, ◌∙◌, inl, inr, cond, ltb}
+use Rattle.std.proofs.Common.{◌≡◌, ℕ, zero, suc, ◌+◌, ◌-◌, ◌<◌, ◌≤◌, Bool, List, [], take, length, arith, ap, sym, subst, ◌∙◌, inl, inr, cond, ltb}
 use Rattle.std.specs.Prelude.{slice_get, slice_index, slice_index_or, sum_by}
-use Rattle.std.proofs.Math.Nat.{add-mul, mul_comm, mul-le-mul, mul-le-mul_right}
 use Rattle.std.proofs.Math.Seq.{take-length}
 use Rattle.std.proofs.lemmas.Bool.{cases_eq, cases_lt, le-ltb, lt-ltb}
 use Rattle.std.proofs.lemmas.List.{length-map}
-use Rattle.std.proofs.lemmas.List.Sums.{sum_by-cons, sum_by-take-le}
+use Rattle.std.proofs.lemmas.List.Sums.{sum_by-take-le}
 use Rattle.std.proofs.lemmas.Option.{same_Some, slice_get-get_or, slice_get_within}
 use Rattle.bdd_core.proofs.Pigeon.{pigeon}
 use Rattle.circuit_faults.proofs.CountLaws.{sum_next}
 use Rattle.circuit_faults.proofs.WholeParts.{rising_once}
-use Rattle.circuit_faults.specs.Operations.{circuit_operations, part_operations}
 use Rattle.channel_parts.specs.PartLists.{AreParts, IsPartOf, device_numbers, least_of, net_numbers}
 use Rattle.channel_parts.specs.declared.part.Part.{Part}
 use Rattle.channel_parts.specs.declared.part.Parts.{Parts}
-use Rattle.path_fixpoint.proofs.PinLaws.{flat_at}
-use Rattle.path_fixpoint.specs.Parts.{pins_at, pins_of}
 use Rattle.vrt_model.proofs.Laws.{turned}
-use Rattle.vrt_model.proofs.Members.{among_later}
 use Rattle.vrt_model.proofs.Ranked.{together_plain}
-use Rattle.vrt_model.proofs.Sums.{sum_same}
 use Rattle.vrt_model.specs.Known.{IsChannel, IsInPart, IsPlain, IsTogether, itself, onward}
 use Rattle.vrt_model.specs.Lists.{At, Among}
 use Rattle.vrt_model.specs.Path.{Joins}
 use Rattle.vrt_model.specs.declared.circuit.Circuit.{Circuit}
 use Rattle.vrt_model.specs.declared.circuit.Device.{Device}
-use Rattle.vrt_model.specs.declared.ids.Dev.{Dev}
 use Rattle.vrt_model.specs.declared.ids.Net.{Net}
 use Rattle.vrt_model.specs.declared.rules.Phase.{Phase}
 
@@ -242,12 +235,6 @@ module _ (c : Circuit) (phase : Phase) (which : Bool) (rank : ℕ → ℕ) (part
 
   pub devices_few : sum_by device_count parts.list ≤ length c.devices
   devices_few = all_few devices_in parts.list (length c.devices) own_devices
-
-  -- a part has a net, and no more than the circuit
-  some_net : (part : Part) → Among parts.list part → 1 ≤ length part.nets
-  some_net part m =
-      let lt = slice_get_within (nets_of part) 0 (least_of part) (are.each part m).first in
-      omega (arith, lt, length-map part.nets (λ (net : Net). net.0))
 
   pub part_room : (part : Part) → Among parts.list part → length part.nets ≤ length c.nets
   part_room part m =

@@ -1,14 +1,13 @@
 -- All operations of a phase are within its work, where its circuit has at most 50 nets or no whole instance; with more nets each budget that
 -- there is lies below what may be needed.
-use Rattle.std.proofs.Common.{◌≡◌, ℕ, ◌+◌, ◌*◌, ◌^◌, ◌<◌, ◌≤◌, ◌⊎◌, true, false, List, [], length, arith, ap, refl, inl, inr}
+use Rattle.std.proofs.Common.{◌≡◌, ℕ, ◌+◌, ◌*◌, ◌^◌, ◌<◌, ◌≤◌, ◌⊎◌, true, false, [], length, arith, ap, inl, inr}
 use Rattle.std.specs.Prelude.{sum_by}
-use Rattle.std.proofs.Math.Nat.{add-mul, mul-add, mul_assoc, mul_comm, mul-le-mul_left, mul-le-mul_right, pow-le-pow_right}
+use Rattle.std.proofs.Math.Nat.{add-mul, mul-add, mul_assoc, mul-le-mul_left, mul-le-mul_right, pow-le-pow_right}
 use Rattle.std.proofs.lemmas.Bool.{cases_lt}
 use Rattle.std.proofs.lemmas.Nat.{mul-le}
 use Rattle.blif_eval.proofs.LatchLaws.{names_few}
 use Rattle.circuit_faults.specs.Operations.{circuit_operations, constraint_operations, steps_operations}
 use Rattle.circuit_faults.specs.Steps.{InPhase, in_comparison}
-use Rattle.constraints.specs.Cared.{assumed_size}
 use Rattle.drive_levels.specs.NetLevels.{drive_operations}
 use Rattle.path_fixpoint.specs.Parts.{pins_of}
 use Rattle.path_fixpoint.specs.Spending.{solving_operations}
@@ -23,8 +22,7 @@ use Rattle.vrt_model.specs.Budget.{assume_size, constraints_size, model_size, wo
 use Rattle.vrt_model.specs.Comparison.{Comparison, cell_at, is_observed, phase_at}
 use Rattle.vrt_model.specs.Elements.{element_names}
 use Rattle.vrt_model.specs.Held.{sources_of}
-use Rattle.vrt_model.specs.Levels.{source_level}
-use Rattle.vrt_model.specs.declared.circuit.Circuit.{Circuit}
+use Rattle.vrt_model.specs.Levels.{most_source, source_level}
 use Rattle.vrt_model.specs.declared.rules.Phase.{Phase}
 use Rattle.vrt_model.proofs.Scales.{source_most}
 use Rattle.vrt_model.specs.declared.whole.Whole.{Whole}
@@ -47,9 +45,9 @@ models_small : (n m : ℕ) → IsSmall n m → n * (2 * m) ≤ 100 * m
 models_small n m (inl few) = (let most : n * (2 * m) ≤ 50 * (2 * m) = mul-le-mul_right {m = n} {n = 50} (2 * m) few in omega (arith, most))
 models_small n m (inr none) = (let zero : n * (2 * m) ≡ n * (2 * 0) = ap (λ (k : ℕ). n * (2 * k)) none in omega (arith, zero))
 
--- The sum of all bounds is within the work, for source levels up to fifteen: n nets, d devices, h holds, e elements, r outputs and m literals
+-- The sum of all bounds is within the work, for source levels up to the greatest: n nets, d devices, h holds, e elements, r outputs and m literals
 -- and rows of whole instances, s those of the model and its latches, a and o the sizes of the constraints.
-within_work : (l n d h e r m s a o b k v w i : ℕ) → l ≤ 15 → h ≤ n → e ≤ s + s → r ≤ 40 * ((n + 1) * (n + d + 1)) → IsSmall n m
+within_work : (l n d h e r m s a o b k v w i : ℕ) → l ≤ most_source → h ≤ n → e ≤ s + s → r ≤ 40 * ((n + 1) * (n + d + 1)) → IsSmall n m
     → b ≤ n * (2 * m) + ((12 * l + 12) * (n * d) + 16 * n + 6 * r) → k ≤ (12 * l + 12) * (n * d) + 12 * n + 6 * r
     → v ≤ 4 * l * (n * d) + (l + 1) * n + (4 * l * (n * d) + (l + 1) * n) → w ≤ 4 * n → i ≤ 22 * o
     → 2 * h + n + e + 20 * (a + h) + (b + i) + (k + 20 * n) + 2 * s + 4 * w + v ≤ 1000 * (n + 1) * (n + d + 1) + 100 * (s + m + (a + o) + 1)
@@ -58,9 +56,9 @@ within_work l n d h e r m s a o b k v w i level holds elements outputs small bar
     let sq = square n d in
     let big : 1000 * (n + 1) * (n + d + 1) ≡ 1000 * ((n + 1) * (n + d + 1)) = mul_assoc 1000 (n + 1) (n + d + 1) in
     let models = models_small n m small in
-    let solving : (12 * l + 12) * x ≤ 192 * x = mul-le-mul_right {m = 12 * l + 12} {n = 192} x (omega (arith, level)) in
-    let strengths : 4 * l * x ≤ 60 * x = mul-le-mul_right {m = 4 * l} {n = 60} x (omega (arith, level)) in
-    let nets : (l + 1) * n ≤ 16 * n = mul-le-mul_right {m = l + 1} {n = 16} n (omega (arith, level)) in
+    let solving : (12 * l + 12) * x ≤ (12 * most_source + 12) * x = mul-le-mul_right {m = 12 * l + 12} {n = 12 * most_source + 12} x (omega (arith, level)) in
+    let strengths : 4 * l * x ≤ 4 * most_source * x = mul-le-mul_right {m = 4 * l} {n = 4 * most_source} x (omega (arith, level)) in
+    let nets : (l + 1) * n ≤ (most_source + 1) * n = mul-le-mul_right {m = l + 1} {n = most_source + 1} n (omega (arith, level)) in
     omega (arith, holds, elements, outputs, bare, kept, levels, wishes, lines, sq, big, models, solving, strengths, nets)
 
 -- more than 50 nets and more than four variables pass each budget
@@ -135,13 +133,3 @@ module _ (k : Comparison) (phase : ℕ) (plan : PhasePlan) (devices : ℕ) (read
             mul-le-mul_left {m = phase_operations k phase plan} {n = work_within k devices} (2 ^ v) (phase_work (inl low)) in
             (many, omega (arith, passed, product))
       ]
-
-  -- without whole instances it does so whatever it is
-  pub flat_passes : k.circuit.wholes ≡ [] → (budget : ℕ) → MaySpend k budget phase (phase_operations k phase plan)
-      → (4 < length (sources_of k phase)) × (budget < 2 + 2 ^ length (sources_of k phase) * work_within k devices)
-  flat_passes none budget may =
-      let passed = may.passed in
-      let v : ℕ = length (sources_of k phase) in
-      let product : 2 ^ v * phase_operations k phase plan ≤ 2 ^ v * work_within k devices =
-      mul-le-mul_left {m = phase_operations k phase plan} {n = work_within k devices} (2 ^ v) (phase_work (inr none)) in
-      (may.many, omega (arith, passed, product))

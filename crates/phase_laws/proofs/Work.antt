@@ -1,5 +1,5 @@
 -- What a store has after operations of a phase, and what a refusal of some of them says; the room of its parts.
-use Rattle.std.proofs.Common.{◌≡◌, ℕ, ◌+◌, ◌*◌, ◌^◌, ◌<◌, ◌≤◌, Err, List, length, arith, true, false, ap, sym, subst, ◌∙◌, inl, inr, []}
+use Rattle.std.proofs.Common.{◌≡◌, ℕ, ◌+◌, ◌*◌, ◌^◌, ◌<◌, ◌≤◌, Err, List, length, arith, true, false, ap, sym, subst, ◌∙◌, inl, inr}
 use Rattle.std.proofs.Math.Nat.{add-mul, mul-le-mul_right, mul_comm}
 use Rattle.std.proofs.lemmas.Bool.{cases_lt}
 use Rattle.node_pool.specs.declared.region.Node.{Node}

@@ -1,6 +1,6 @@
 //! The assignments of the model at each list of bits, and the phase as a whole.
 
-ghost use Rattle.std.specs.Prelude.{◌≡◌, ℕ, ◌<◌, ◌↔◌, Bool, List, false, length};
+ghost use Rattle.std.specs.Prelude.{◌≡◌, ℕ, ◌<◌, Bool, List, false, length};
 ghost use Rattle.fault_places.specs.Searches.{Case, HasCases, IsClearOf, StandsIn};
 ghost use Rattle.phase_laws.specs.Models.{AreDefined, AreGiven, HasCaseAt, HasOneModel, IsAssignedAt};
 ghost use Rattle.phase_terms.specs.Found.{met};

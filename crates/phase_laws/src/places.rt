@@ -1,6 +1,6 @@
 //! The places of a phase at which a fault may stand, and the first fault.
 
-ghost use Rattle.std.specs.Prelude.{◌≡◌, ℕ, ◌<◌, Bool, List, length};
+ghost use Rattle.std.specs.Prelude.{ℕ, ◌<◌, Bool, List, length};
 ghost use Rattle.circuit_faults.specs.KeptFaults.{AreKeptObserved};
 ghost use Rattle.fault_places.specs.Searches.{AreSpots, Case, IsFoundIn, IsLeastOf, Spot, StandsIn, finding_at};
 ghost use Rattle.phase_laws.specs.Models.{HasOneModel};

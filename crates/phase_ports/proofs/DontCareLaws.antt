@@ -1,19 +1,17 @@
 -- The don't-care bits of signals by a table, and what they say of the wishes for the signals.
-use Rattle.std.proofs.Common.{◌≡◌, ℕ, zero, suc, ◌<◌, Bool, true, false, not, ◌&&◌, ◌||◌, ◌==◌, cond, All, List, [], ◌∷◌, replicate, length, Option, Some, None, arith, ap, refl, subst, sym, ◌⊎◌, ◌∙◌, inl, inr}
+use Rattle.std.proofs.Common.{◌≡◌, ℕ, ◌<◌, Bool, true, false, not, ◌&&◌, ◌||◌, ◌==◌, cond, All, List, [], ◌∷◌, replicate, length, Option, Some, None, arith, ap, refl, subst, sym, ◌⊎◌, ◌∙◌, inl, inr}
 use Rattle.std.specs.Prelude.{get_or, option_map, unwrap_or}
 use Rattle.std.specs.List.{list_any}
 use Rattle.std.proofs.lemmas.Bool.{cases_Bool, cases_lt, eqb-true}
 use Rattle.std.proofs.lemmas.Option.{same_Some}
 use Rattle.std.proofs.lemmas.List.{get_or-replicate, get_or_past, length-replicate}
 use Rattle.phase_ports.specs.DontCares.{AreDontCareBits, HaveBitsOf, bit_of, bit_with}
-use Rattle.phase_wishes.specs.Wishes.{AreFreeBits, HasOneBitEach, is_asked}
-use Rattle.phase_wishes.specs.declared.wishes.Wanted.TheVariants.{Signal}
+use Rattle.phase_wishes.specs.Wishes.{AreFreeBits}
 use Rattle.phase_wishes.specs.declared.wishes.Wish.{Wish}
 use Rattle.vrt_model.proofs.Members.{all_among, all_by, among_later}
 use Rattle.vrt_model.specs.Assignment.{Assignment}
 use Rattle.vrt_model.specs.Comparison.{Comparison}
-use Rattle.vrt_model.specs.Faults.{is_free}
-use Rattle.vrt_model.specs.FlatModels.{IsFlatModel}
+use Rattle.vrt_model.specs.FlatModels.{HasOneBitEach, IsFlatModel}
 use Rattle.vrt_model.specs.Lists.{Among}
 use Rattle.vrt_model.specs.declared.flat_model.DontCare.{DontCare}
 use Rattle.vrt_model.specs.declared.flat_model.FlatModel.{FlatModel}

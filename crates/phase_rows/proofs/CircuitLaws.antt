@@ -1,9 +1,12 @@
 -- A circuit that passes all tests is well formed.
-use Rattle.std.proofs.Common.{◌≡◌, ◌≢◌, ℕ, zero, suc, ◌≤◌, ◌⊎◌, All, List, [], ◌∷◌, length, arith, ap, refl, sym, subst, ◌∙◌}
+use Rattle.std.proofs.Common.{◌≡◌, ◌≢◌, ℕ, zero, suc, ◌≤◌, ◌==◌, true, All, List, [], ◌∷◌, length, arith, ap, refl, sym, subst, ◌∙◌}
+use Rattle.std.proofs.lemmas.Bool.{eqb-true}
 use Rattle.std.proofs.lemmas.Option.{none-some, same_Some}
 use Rattle.phase_rows.specs.Apart.{AreApart}
 use Rattle.vrt_model.proofs.Members.{all_among}
+use Rattle.vrt_model.proofs.Scales.{source_is_one}
 use Rattle.vrt_model.specs.Circuits.{IsCircuit, IsFlat, IsNet, IsWhole}
+use Rattle.vrt_model.specs.Levels.{IsSourceLevel, source_level}
 use Rattle.vrt_model.specs.Lists.{At}
 use Rattle.vrt_model.specs.declared.circuit.Circuit.{Circuit}
 use Rattle.vrt_model.specs.declared.circuit.FlatInstance.{FlatInstance}
@@ -25,7 +28,11 @@ once (x ∷ xs) apart zero (suc j) g h at there same = absurd (not_first x xs j 
 once (x ∷ xs) apart (suc i) zero g h at there same = absurd (not_first x xs i h g apart there at (sym same))
 once (x ∷ xs) apart (suc i) (suc j) g h at there same = ap suc (once xs apart.1 i j g h at there same)
 
-pub circuit_is : (c : Circuit) → (c.source ≡ 8) ⊎ (c.source ≡ 15) → length c.nets ≤ 20000 → length c.devices ≤ 40000 → length c.instances ≤ 40000 → IsFlat c
+-- a level that the circuit reads as it is said is that of one of the scales
+pub source_told : (c : Circuit) (level : ℕ) → level ≡ source_level c → (c.source == level) ≡ true → IsSourceLevel c.source
+source_told c level e same = subst IsSourceLevel (sym (eqb-true c.source level same ∙ e)) (source_is_one c)
+
+pub circuit_is : (c : Circuit) → IsSourceLevel c.source → length c.nets ≤ 20000 → length c.devices ≤ 40000 → length c.instances ≤ 40000 → IsFlat c
     → All (λ (i : FlatInstance). All (IsNet c) i.ports) c.instances → AreApart c.holds → IsCircuit c
 circuit_is c source nets devices instances flat ports apart = record {
   source = source;

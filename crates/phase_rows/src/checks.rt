@@ -1,11 +1,12 @@
 //! Whether what the lines give meets the conditions of the calls.
 
-ghost use Rattle.std.specs.Prelude.{◌≡◌, ◌≢◌, ◌<◌, ◌⊎◌, All, IsTrue, length, true};
+ghost use Rattle.std.specs.Prelude.{◌≡◌, ◌≢◌, ◌<◌, All, IsTrue, length, true};
 ghost use Rattle.bdd_core.specs.Store.{IsSpan};
 ghost use Rattle.bdd_core.specs.Words.{IsFilled};
 ghost use Rattle.phase_rows.specs.Apart.{AreApart};
-ghost use Rattle.vrt_model.specs.Circuits.{IsCircuit, IsFlat, IsNet};
+ghost use Rattle.vrt_model.specs.Circuits.{IsCircuit, IsNet};
 ghost use Rattle.vrt_model.specs.Comparison.{cell_at};
+ghost use Rattle.vrt_model.specs.Levels.{IsSourceLevel};
 ghost use Rattle.vrt_model.specs.declared.circuit.FlatInstance.{FlatInstance as InstanceValue};
 ghost use Rattle.vrt_model.specs.declared.circuit.Hold.{Hold as HoldValue};
 ghost use Rattle.vrt_model.specs.declared.ids.Net.{Net as NetValue};
@@ -53,10 +54,11 @@ fn are_apart(circuit: &Circuit) -> bool
 }
 
 /// Whether the level of sources is that of one of the scales.
+#[tactic(auto, using(crate::proofs::CircuitLaws::source_told))]
 fn has_source(circuit: &Circuit) -> bool
-    ensures { IsTrue result → (circuit.now.source ≡ 8) ⊎ (circuit.now.source ≡ 15) }
+    ensures { IsTrue result → IsSourceLevel circuit.now.source }
 {
-    circuit.source == 8 || circuit.source == 15
+    circuit.source == circuit.source_level()
 }
 
 /// Whether a circuit is well formed.

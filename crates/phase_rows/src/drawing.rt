@@ -17,7 +17,7 @@ use row_script::word_and_rest;
 use std::alloc::Global;
 use vrt_model::{
     Circuit, ClockRef, Device, Enter, FlatInstance, FlatNet, Hold, HoldEnd, Kind, Net, NetKind,
-    Seq, Text,
+    Seq, Text, USUAL_SOURCE,
 };
 
 /// More nets than a circuit has.
@@ -31,7 +31,7 @@ pub(crate) fn empty(alloc: Global) -> Circuit {
         holds: Seq::new(alloc),
         instances: Seq::new(alloc),
         wholes: Seq::new(alloc),
-        source: 8,
+        source: USUAL_SOURCE,
     }
 }
 

@@ -4,13 +4,12 @@ use Rattle.circuit_faults.specs.Keys.{HasAllPorts}
 use Rattle.circuit_faults.specs.Wholes.{HasSoundWholes}
 use Rattle.constraints.specs.Obliged.{AreNamed}
 use Rattle.hold_groups.specs.Grouped.{AreGroups}
-use Rattle.phase_wishes.specs.Wishes.{HasOneBitEach}
 use Rattle.phase_terms.specs.declared.compared.Comparison.{Comparison as CellComparison}
 use Rattle.vrt_model.specs.Assignment.{Tied}
 use Rattle.vrt_model.specs.Circuits.{IsCircuit}
 use Rattle.vrt_model.specs.Comparison.{CellPort, Comparison, cell_at, is_observed, output_signal, phase_at, port_nets, ports_of, tied_inputs}
 use Rattle.vrt_model.specs.Elements.{element_names}
-use Rattle.vrt_model.specs.FlatModels.{IsFlatModel}
+use Rattle.vrt_model.specs.FlatModels.{HasOneBitEach, IsFlatModel}
 use Rattle.vrt_model.specs.Inputs.{AllApart, AreRules}
 use Rattle.vrt_model.specs.Lists.{Among, At}
 use Rattle.vrt_model.specs.PairedPorts.{HasRoles}

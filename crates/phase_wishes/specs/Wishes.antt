@@ -11,8 +11,6 @@ use Rattle.vrt_model.specs.Faults.{WantsValue, is_free}
 use Rattle.vrt_model.specs.Lists.{Among, At, differ}
 use Rattle.vrt_model.specs.Places.{comes_before, standing}
 use Rattle.vrt_model.specs.Reading.{Partial}
-use Rattle.vrt_model.specs.declared.flat_model.DontCare.{DontCare}
-use Rattle.vrt_model.specs.declared.flat_model.FlatModel.{FlatModel}
 use Rattle.vrt_model.specs.declared.verdict.FaultKind.{FaultKind}
 use Rattle.vrt_model.specs.declared.verdict.FaultKind.TheVariants.{Differs, Next, Apart, Enter}
 
@@ -77,10 +75,6 @@ pub record AreOutputWishes (k : Comparison) (phase : ℕ) (wishes : List Wish) :
       → (port : CellPort) × (signal : ℕ) × IsSeenOutput k phase wish.place port signal × (wish.net.0 ≡ port.net) × (wish.wanted ≡ Signal signal)
   pub all : (at : ℕ) (port : CellPort) (signal : ℕ) → IsSeenOutput k phase at port signal → (wish : Wish) × Among wishes wish × (wish.place ≡ at)
   pub rising : (i j : ℕ) (x y : Wish) → At wishes i x → At wishes j y → i < j → x.place < y.place
-
--- the don't cares of one output have one bit
-abbrev pub HasOneBitEach : FlatModel → Type 0
-HasOneBitEach flat = (d e : DontCare) → Among flat.dontcares d → Among flat.dontcares e → d.output ≡ e.output → d.bit ≡ e.bit
 
 -- a wish for a signal is asked for where the signal is not free
 abbrev pub AreFreeBits : Comparison → List Wish → Type 0

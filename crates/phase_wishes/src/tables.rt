@@ -1,7 +1,6 @@
 //! What holds ought to have, in a table by net.
 
 ghost use Rattle.std.specs.Prelude.{◌≡◌, ℕ, ◌<◌, ◌==◌, Option, None, Some, Result, cond, get_or, length, replicate, IfOk, OnOk};
-ghost use Rattle.vrt_model.specs.declared.circuit.Circuit.{Circuit as CircuitValue};
 ghost use Rattle.phase_wishes.specs.Held.{IsOfEnter, IsOfEnters, IsOfGroup, IsOfGroups, IsOfMember, IsOfMembers, Puts};
 
 use crate::bases::{Stored, base_of, with_polarity};

@@ -25,6 +25,7 @@ use Rattle.placed_cells.specs.Rows.{AreInRow, size_inside}
 use Rattle.placed_cells.specs.Splits.{IsSplit, is_net_in}
 use Rattle.vrt_model.proofs.Lists.{at_back, map_among}
 use Rattle.vrt_model.proofs.Members.{among_any, among_either, among_flat_map, among_left, among_map, among_right, any_among, flat_map_among}
+use Rattle.vrt_model.proofs.Scales.{same_source}
 use Rattle.vrt_model.specs.CellRules.{supply_of}
 use Rattle.vrt_model.specs.Comparison.{cell_at}
 use Rattle.vrt_model.specs.FlatCircuit.{flat_circuit_of, flat_device, flat_devices, flat_nets, is_keeper, level_of}
@@ -127,10 +128,6 @@ module _ (t : Top) (roles : List PortRole) (number : ℕ) (p : Place) (depth : �
       let law = instances_are_shifted t roles p tied in
       subst (λ (ps : List Place). AllZip FitsPlace ps (places_in t depth p)) (all_deeper own depth rest_is.0 rest_is.1 (within_alone t p.cell roles depth p.cell within))
       (places_shifted t p.cell roles at p.path law.1 law.2 depth (top_place own) p (none_shallow t depth rest_is.0 p.cell (subst (λ (n : ℕ). NamesNoGlobal t n p.cell) (sym rest_is.1) none)) law.0)
-
-  -- and are among all places
-  pub inside_among : (r : Place) → Among (places_in t depth p) r → Among (all_places t) r
-  inside_among r m = subst (λ (ps : List Place). Among ps r) (sym split.whole) (among_right before (places_in t depth p ++ behind) r (among_left (places_in t depth p) behind r m))
 
   image : (q r : Place) (card : DeviceCard) → FitsPlace q r → Among (cell_at t.design r.cell).devices card → IsImage at (flat_device own q card) (flat_device t r card)
   image q r card fits m = record {
@@ -362,7 +359,7 @@ module _ (t : Top) (roles : List PortRole) (number : ℕ) (p : Place) (depth : �
       pub placed : IsPlaced (flat_circuit_of own) c at exposed drive
       unfolding flat_circuit_of
       placed = record {
-        source = ap (λ (x : ℕ). cond (x == 15) 15 8) (sym shows.source);
+        source = same_source (flat_circuit_of own) c (sym shows.source);
         no_holds = holds;
         no_wholes = refl;
         channels = λ d n m touch.

@@ -11,7 +11,7 @@ use Rattle.plain_models.proofs.CardKinds.{Each}
 use Rattle.plain_models.proofs.NamesApart.{apart_from, none_named, one_named, some_named}
 use Rattle.plain_models.specs.Flat.{HasDrivers, driven_names, used_names}
 use Rattle.plain_models.specs.Texts.{PlainCover, PlainModel, alone, covers_from, model_on_lines, outputs_line}
-use Rattle.vrt_model.proofs.Lists.{at_front, filter_map_none}
+use Rattle.vrt_model.proofs.Lists.{at_front, filter_map_none, no_items}
 use Rattle.vrt_model.proofs.Tests.{bytes_eq-sym}
 use Rattle.vrt_model.specs.Inputs.{AllApart}
 use Rattle.vrt_model.specs.Lists.{has_name}
@@ -94,10 +94,6 @@ not_found : {X : Type 0} (p : X → Bool) (xs : List X) → ((x : X) → p x ≡
 not_found p [] f = refl
 not_found p (x ∷ xs) f = ap (λ (t : Bool). cond t (Some x) (find p xs)) (f x) ∙ not_found p xs f
 
-no_length : {X : Type 0} (xs : List X) → length xs ≡ 0 → xs ≡ []
-no_length [] e = refl
-no_length (x ∷ xs) e = absurd (omega (arith, e))
-
 -- ---- one model
 
 module _ (m : PlainModel) (drivers : HasDrivers m) where
@@ -170,7 +166,7 @@ module _ (m : PlainModel) (drivers : HasDrivers m) where
   unused : (line : ℕ) (name : List ℕ) → has_name (driven_names m) name ≡ false → is_undriven_on own (model_on_lines m) line name ≡ false
   unused line name none =
       let apart : has_name (used_names m) name ≡ false = false_from_ne_true (has_name (used_names m) name) (λ t. false≢true (sym none ∙ drivers.each name t)) in
-      let empty : us name ≡ [] = no_length (us name) (named_count (uses_in own (model_on_lines m)) name ∙ ap (λ (xs : List (List ℕ)). length (filter (λ x. bytes_eq x name) xs)) uses_named ∙ ap length (none_named name (used_names m) apart)) in
+      let empty : us name ≡ [] = no_items (us name) (named_count (uses_in own (model_on_lines m)) name ∙ ap (λ (xs : List (List ℕ)). length (filter (λ x. bytes_eq x name) xs)) uses_named ∙ ap length (none_named name (used_names m) apart)) in
       ap (λ (xs : List OnLine). (is_none (slice_get (ds name) 0) && list_any (λ (o : OnLine). o.line == line) xs) && (count_lines (λ l. nat_lt l line) xs == 0)) empty
       ∙ no_second (is_none (slice_get (ds name) 0))
 

@@ -24,11 +24,6 @@ apart_from (x ∷ xs) ys n = both ys (or_parts (has_name xs x) (has_name ys x) (
         let p = or_parts (bytes_eq x z) (has_name zs x) e in
         (or_from (bytes_eq z x) (has_name xs z) (bytes_eq-sym z x ∙ p.0) rest.0, both zs p.1 rest.1)
 
--- so are these different
-pub apart_behind_all : (xs ys : List (List ℕ)) → NoRepeat (xs ++ ys) → NoRepeat ys
-apart_behind_all [] ys n = n
-apart_behind_all (x ∷ xs) ys n = apart_behind_all xs ys n.1
-
 -- those that are a name
 pub none_named : (name : List ℕ) (xs : List (List ℕ)) → has_name xs name ≡ false → filter (λ x. bytes_eq x name) xs ≡ []
 none_named name [] e = refl

@@ -1,9 +1,9 @@
 //! Which nets a value reaches.
 
 ghost use Rattle.std.specs.Prelude.{◌≡◌, ℕ, ◌<◌, ◌⊎◌, ◌↔◌, Bool, false, true, length, slice_index, replicate, IfOk, All};
-ghost use Rattle.plain_paths.specs.Channels.{Connects, HasChannels, IsOver, IsInRange, channel_of};
+ghost use Rattle.plain_paths.specs.Channels.{HasChannels, IsOver, IsInRange, channel_of};
 ghost use Rattle.vrt_model.specs.Circuits.{IsFlat};
-ghost use Rattle.plain_paths.specs.Marks.{ChannelFits, Marked, MarksPass};
+ghost use Rattle.plain_paths.specs.Marks.{Marked, MarksPass};
 ghost use Rattle.plain_paths.specs.declared.channels.Channel.{Channel as ChannelValue};
 ghost use Rattle.vrt_model.proofs.Clear.{HopFits, RootFits};
 ghost use Rattle.vrt_model.proofs.Marks.{HasRootMarks};

@@ -1,8 +1,7 @@
 //! Whether a circuit has no whole instance, and its numbers, levels and sizes in range.
 
-ghost use Rattle.std.specs.Prelude.{◌≡◌, ◌<◌, ◌↔◌, IsTrue, All, length};
+ghost use Rattle.std.specs.Prelude.{◌<◌, ◌↔◌, IsTrue, All, length};
 ghost use Rattle.vrt_model.specs.Circuits.{IsDevice, IsEnd, IsHold, IsFlat};
-ghost use Rattle.vrt_model.specs.Levels.{least_level};
 
 use vrt_model::{Circuit, Device, Hold, HoldEnd, Net};
 
@@ -13,13 +12,6 @@ fn is_net(circuit: &Circuit, net: Net) -> bool
     (net.0 as usize) < circuit.nets.len()
 }
 
-/// The least level of a device.
-fn least_level(circuit: &Circuit) -> u8
-    ensures { result ≡ least_level circuit.now }
-{
-    if circuit.source == 15 { 6 } else { 4 }
-}
-
 /// Whether the nets of a device are in range, and its level is one of devices.
 fn is_device(circuit: &Circuit, device: &Device) -> bool
     ensures { IsTrue result ↔ IsDevice circuit.now device.now }
@@ -27,7 +19,7 @@ fn is_device(circuit: &Circuit, device: &Device) -> bool
     is_net(circuit, device.gate)
         && is_net(circuit, device.left)
         && is_net(circuit, device.right)
-        && least_level(circuit) <= device.level
+        && circuit.least_level() <= device.level
         && device.level < circuit.source_level()
 }
 
@@ -51,7 +43,7 @@ fn is_hold(circuit: &Circuit, hold: &Hold) -> bool
 {
     is_net(circuit, hold.net)
         && 1 <= hold.size
-        && hold.size < least_level(circuit)
+        && hold.size < circuit.least_level()
         && is_end(circuit, &hold.end)
 }
 

@@ -1,7 +1,7 @@
 //! The strength of each net.
 
-ghost use Rattle.std.specs.Prelude.{◌≡◌, ℕ, ◌<◌, ◌≤◌, ◌⊎◌, min, false, cond, map, length, slice_index, IfOk, All};
-ghost use Rattle.plain_paths.specs.Channels.{Connects, HasChannels, IsOver, IsInRange, channel_of};
+ghost use Rattle.std.specs.Prelude.{◌≡◌, ℕ, ◌<◌, ◌≤◌, ◌⊎◌, min, false, map, length, slice_index, IfOk, All};
+ghost use Rattle.plain_paths.specs.Channels.{HasChannels, IsOver, IsInRange, channel_of};
 ghost use Rattle.vrt_model.specs.Circuits.{IsFlat};
 ghost use Rattle.plain_paths.specs.Tables.{HasGrown, HasHolds, HasPassed, HasRoots, IsAttained, level_of_net};
 ghost use Rattle.plain_paths.specs.declared.channels.Channel.{Channel as ChannelValue};
@@ -9,7 +9,6 @@ ghost use Rattle.vrt_model.specs.Networks.{HasBound};
 ghost use Rattle.vrt_model.specs.Levels.{source_level};
 ghost use Rattle.vrt_model.specs.Lists.{Among};
 ghost use Rattle.vrt_model.specs.Path.{IsOn, Network};
-ghost use Rattle.vrt_model.specs.Reading.{is_given};
 ghost use Rattle.vrt_model.specs.Response.{IsStrength};
 ghost use Rattle.vrt_model.specs.declared.circuit.Device.{Device};
 

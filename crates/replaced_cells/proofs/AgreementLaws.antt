@@ -2,10 +2,9 @@
 use Rattle.std.proofs.Common.{ℕ, ◌<◌, Bool, List, length, subst, sym}
 use Rattle.channel_parts.specs.OneSolution.{HasOneSolution}
 use Rattle.replaced_cells.proofs.GoesDown.{agreement_goes_down}
-use Rattle.replaced_cells.proofs.GoesUp.{agreement_goes_up}
 use Rattle.replaced_cells.proofs.GoesUpByFaults.{agreement_goes_up_by_faults}
-use Rattle.replaced_cells.specs.Agreement.{AgreementIsTransitive, AgreesWith, HaveSameValuations, IsAlwaysSolved, OneMoreWholeAgrees, OneMoreWholeAgreesByFaults}
-use Rattle.replaced_cells.specs.OneMoreWhole.{IsOneMoreWhole, no_net}
+use Rattle.replaced_cells.specs.Agreement.{AgreementIsTransitive, AgreesWith, HaveSameValuations, IsAlwaysSolved, OneMoreWholeAgreesByFaults}
+use Rattle.replaced_cells.specs.OneMoreWhole.{IsOneMoreWhole}
 use Rattle.vrt_model.specs.Checked.{with_circuit}
 use Rattle.vrt_model.specs.Comparison.{Comparison, is_observed, phase_at}
 use Rattle.vrt_model.specs.Constraints.{Meets}
@@ -35,12 +34,6 @@ one_there : (k : Comparison) (whole_circuit : Circuit) → IsAlwaysSolved (with_
     → HasOneSolution whole_circuit (phase_at k.rules phase) (is_observed (with_circuit k whole_circuit) phase) (setting_of k phase bits)
 one_there k whole_circuit solved same phase bits lt =
     subst (HasOneSolution whole_circuit (phase_at k.rules phase) (is_observed (with_circuit k whole_circuit) phase)) (same.settings phase bits) (solved phase bits lt)
-
-pub one_more_whole_agrees : OneMoreWholeAgrees
-one_more_whole_agrees k q whole_circuit at place fresh remaining compared drive one solved whole_solved same =
-    agrees_both_ways k q whole_circuit at place fresh remaining compared no_net drive one solved same
-    (λ phase bits lt met.
-    agreement_goes_up k q phase whole_circuit at place fresh remaining compared drive (setting_of k phase bits) (one phase lt) (one_there k whole_circuit whole_solved same phase bits lt))
 
 pub one_more_whole_agrees_by_faults : OneMoreWholeAgreesByFaults
 one_more_whole_agrees_by_faults k q whole_circuit at place fresh remaining compared exposed drive one solved whole_solved same tell =

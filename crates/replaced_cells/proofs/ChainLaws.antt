@@ -1,8 +1,7 @@
 -- Comparisons over the circuits of a chain.
-use Rattle.std.proofs.Common.{ℕ, zero, suc, Bool, Option, arith, ap, sym, ◌∙◌}
+use Rattle.std.proofs.Common.{ℕ, Bool, Option, ap, sym, ◌∙◌}
 use Rattle.checked_chain.proofs.SettingLaws.{constraints_are_same, enter_same, groups_of_chain, holds_of_chain, settings_are_same}
-use Rattle.replaced_cells.proofs.AgreementLaws.{agreement_is_transitive}
-use Rattle.replaced_cells.specs.Chain.{AgreementFollowsChain, ChainKeepsValuations}
+use Rattle.replaced_cells.specs.Chain.{ChainKeepsValuations}
 
 pub chain_keeps_valuations : ChainKeepsValuations
 chain_keeps_valuations k blif facts cut next c d one two =
@@ -21,8 +20,3 @@ chain_keeps_valuations k blif facts cut next c d one two =
             (λ m. here.1 (there.0 m), λ m. there.1 (here.0 m));
       },
     )
-
-pub agreement_follows_chain : AgreementFollowsChain
-agreement_follows_chain k c zero first steps = first
-agreement_follows_chain k c (suc n) first steps =
-    agreement_is_transitive k (c n) (c (suc n)) (agreement_follows_chain k c n first (λ i lt. steps i (omega (arith, lt)))) (steps n (omega arith))

@@ -11,11 +11,11 @@ use Rattle.replaced_cells.proofs.OwnBits.{HaveOwnBits, calm_inside, inside_respo
 use Rattle.replaced_cells.proofs.Prepared.{IsBase, cell_solved, circuit_state, circuit_state_is, mixed, mixed_inside, mixed_outside, mixed_reads, output_bit, states_correspond, valuation_of, whole_state, whole_state_is}
 use Rattle.replaced_cells.proofs.SameResponses.{driven_same, shown_reaches}
 use Rattle.replaced_cells.proofs.SolvedAlike.{always, hidden_net, plain_there, reached_inside, solution_shows, solved_by}
-use Rattle.replaced_cells.proofs.States.{given_there, pins_plain, solution_same, with_given, with_given_agrees, with_given_reads}
+use Rattle.replaced_cells.proofs.States.{pins_plain, solution_same, with_given, with_given_agrees, with_given_reads}
 use Rattle.replaced_cells.specs.Agreement.{AgreementGoesDown, BitsGoDown, HaveSameBits}
 use Rattle.replaced_cells.specs.OneMoreWhole.{AreSolvedAlike, IsOneMoreWhole, all_bits}
 use Rattle.vrt_model.proofs.Decidable.{some_response}
-use Rattle.vrt_model.proofs.GatesGiven.{plain_any, shown_by}
+use Rattle.vrt_model.proofs.GatesGiven.{given_at_gives, plain_any, shown_by}
 use Rattle.vrt_model.proofs.Laws.{one_response}
 use Rattle.vrt_model.proofs.Networks.{network_finite}
 use Rattle.vrt_model.specs.Checked.{with_circuit}
@@ -28,7 +28,7 @@ use Rattle.vrt_model.specs.Known.{IsPlain}
 use Rattle.vrt_model.specs.Levels.{source_level}
 use Rattle.vrt_model.specs.Lists.{At}
 use Rattle.vrt_model.specs.Path.{Network}
-use Rattle.vrt_model.specs.Reading.{HasGivenBit, IsReading, Partial, bare, is_given}
+use Rattle.vrt_model.specs.Reading.{HasGivenBit, IsReading, Partial, bare, is_given, is_given_at}
 use Rattle.vrt_model.specs.Response.{Fight, IsResponse, Response, Shows}
 use Rattle.vrt_model.specs.Solution.{Agrees}
 use Rattle.vrt_model.specs.State.{IsState, OutputPin, Setting, State, network_of, output_pins}
@@ -38,7 +38,6 @@ use Rattle.vrt_model.specs.declared.rules.Phase.{Phase}
 use Rattle.vrt_model.specs.declared.verdict.FaultKind.TheVariants.{Constraint, Fight as FightFault}
 use Rattle.whole_solutions.proofs.GivenShow.{given_shows}
 use Rattle.whole_solutions.proofs.ObservedLaws.{observed_nets_are_there}
-use Rattle.whole_solutions.specs.Observed.{is_given_at}
 
 -- the bit of an option that has one
 pub bit_there : (o : Option Bool) → IsSome o → o ≡ Some (unwrap_or o false)
@@ -246,7 +245,7 @@ module _ (k q : Comparison) (phase : ℕ) (whole_circuit : Circuit) (at place fr
               (outside_response k q phase whole_circuit at place fresh remaining compared exposed drive one setting s r own_bits_there.0 own bare n (Shows (bits n)) up.0).1
               (solution_shows there phase setting r r_is one.whole_determined whole_solves n there_too)
           | inr given ↦
-              let g = given_there whole_circuit n given in
+              let g = given_at_gives whole_circuit n given in
               given_shows k.circuit one.ranges one.placed.pins_plain bare setting.held s n (g.0, subst (λ (nets : List FlatNet). At nets n g.0) one.nets g.1, g.2)
         ]
         | inr (m, net, p, o_inside) ↦

@@ -4,7 +4,6 @@ pub mod BrokenLaws
 pub mod ChainLaws
 pub mod ExposedPins
 pub mod GoesDown
-pub mod GoesUp
 pub mod GoesUpByFaults
 pub mod LevelLaws
 pub mod MissedLaws
@@ -14,6 +13,5 @@ pub mod Prepared
 pub mod PrintedLaws
 pub mod SameResponses
 pub mod SharedFaults
-pub mod ShownInside
 pub mod SolvedAlike
 pub mod States

@@ -24,7 +24,7 @@ use Rattle.vrt_model.proofs.Decidable.{some_response}
 use Rattle.vrt_model.proofs.Filtered.{among_devices, device_among}
 use Rattle.vrt_model.proofs.Members.{all_among}
 use Rattle.vrt_model.proofs.Networks.{network_finite}
-use Rattle.vrt_model.proofs.Scales.{least_below}
+use Rattle.vrt_model.proofs.Scales.{least_above, least_below}
 use Rattle.vrt_model.specs.Circuits.{IsDevice, IsHold}
 use Rattle.vrt_model.specs.Comparison.{Comparison, is_observed, phase_at}
 use Rattle.vrt_model.specs.Constraints.{Meets}
@@ -46,7 +46,6 @@ use Rattle.vrt_model.specs.declared.rules.Phase.{Phase}
 use Rattle.vrt_model.specs.declared.verdict.FaultKind.TheVariants.{Unsettled}
 use Rattle.vrt_model.specs.declared.whole.Whole.{Whole}
 use Rattle.whole_ranks.proofs.KnownLaws.{known_nets_are_solved}
-use Rattle.whole_solutions.proofs.LeastLevels.{least_above}
 use Rattle.whole_solutions.proofs.ObservedCases.{gate_observed}
 
 -- ---- circuits without whole instances

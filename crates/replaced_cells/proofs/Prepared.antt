@@ -1,6 +1,5 @@
 -- From the bits at the nets outside to those of both circuits: the nets of the cell have the bits of the cell's own solution.
-use Rattle.std.proofs.Common.{◌≡◌, ℕ, Bool, true, false, List, Option, Some, subst, sym, refl, ◌∙◌, ap, inl, inr}
-use Rattle.std.specs.Prelude.{unwrap_or}
+use Rattle.std.proofs.Common.{◌≡◌, ℕ, Bool, true, false, List, Some, subst, sym, refl, ◌∙◌, ap, inl, inr}
 use Rattle.std.proofs.lemmas.Bool.{cases_Bool, false≢true}
 use Rattle.std.proofs.lemmas.Option.{same_Some}
 use Rattle.cell_inside.specs.LeftWhole.{Correspond}
@@ -40,10 +39,6 @@ use Rattle.whole_ranks.specs.WholeCells.{IsInputNet}
 use Rattle.whole_solutions.proofs.InstanceLaws.{instance_gives_valuation}
 use Rattle.whole_solutions.proofs.ObservedCases.{gate_observed, instance_observed, pin_observed}
 use Rattle.whole_solutions.specs.Instances.{HasNamedBits, IsNamed}
-
--- the bit of an option that is there
-some_bit : (o : Option Bool) (v : Bool) → o ≡ Some v → o ≡ Some (unwrap_or o false)
-some_bit o v e = e ∙ ap (λ (x : Option Bool). Some (unwrap_or x false)) (sym e)
 
 -- A reading that has the bits of a partial assignment at the nets that are observed with the instance i whole, where no constraint of the
 -- instance is broken.
@@ -106,9 +101,6 @@ module _ (k q : Comparison) (phase : ℕ) (whole_circuit : Circuit) (at place fr
   -- a reading of the one circuit is one of the other
   pub reads_below : (inputs reading : ℕ → Bool) → IsReading whole_circuit now inputs reading → IsReading k.circuit now inputs reading
   reads_below inputs reading reads n net e = reads n net (subst (λ (nets : List FlatNet). At nets n net) (sym one.nets) e)
-
-  pub reads_above : (inputs reading : ℕ → Bool) → IsReading k.circuit now inputs reading → IsReading whole_circuit now inputs reading
-  reads_above inputs reading reads n net e = reads n net (subst (λ (nets : List FlatNet). At nets n net) one.nets e)
 
   -- ---- the cell at a valuation
 

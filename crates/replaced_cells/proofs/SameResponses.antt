@@ -7,11 +7,11 @@ use Rattle.cell_inside.specs.Inside.{Touches}
 use Rattle.channel_parts.proofs.DriveLaws.{gives_same}
 use Rattle.channel_parts.specs.OneSolution.{AreDetermined}
 use Rattle.vrt_model.proofs.Filtered.{device_among}
-use Rattle.vrt_model.proofs.GatesGiven.{shown_by}
+use Rattle.vrt_model.proofs.GatesGiven.{shown_by, shown_is}
 use Rattle.vrt_model.proofs.Laws.{one_response}
 use Rattle.vrt_model.specs.Lists.{Among, At}
 use Rattle.vrt_model.specs.Path.{Hop, IsPath, IsRoot, Network, Root, end_of, level_of}
-use Rattle.vrt_model.specs.Response.{Fight, Float, IsClear, IsResponse, IsStrength, Reaches, Response, Shows}
+use Rattle.vrt_model.specs.Response.{IsClear, IsResponse, IsStrength, Reaches, Response, Shows}
 use Rattle.vrt_model.specs.State.{IsState, OutputPin, Setting, State, network_of, output_pins}
 use Rattle.vrt_model.specs.declared.circuit.Circuit.{Circuit}
 use Rattle.vrt_model.specs.declared.circuit.Device.{Device}
@@ -29,12 +29,6 @@ only_shown w n true false h reached = absurd (h.1 reached)
 only_shown w n false true h reached = absurd (h.1 reached)
 only_shown w n false false h reached = refl
 
--- a response by which a bit is shown
-pub response_is : (r : Response) (v : Bool) → shown_by r ≡ Some v → r ≡ Shows v
-response_is Fight v e = absurd (none-some v e)
-response_is Float v e = absurd (none-some v e)
-response_is (Shows u) v e = ap (λ (x : Bool). Shows x) (same_Some u v e)
-
 -- a net that cannot but show a bit shows it
 pub shows_surely : (w : Network) (n : ℕ) (v : Bool) (r : Response) → IsResponse w n r → ((IsResponse w n (Shows v) → ⊥) → ⊥) → IsResponse w n (Shows v)
 shows_surely w n v r is sure = found (shown_by r) refl
@@ -49,7 +43,7 @@ shows_surely w n v r is sure = found (shown_by r) refl
     found None e = absurd (sure (λ shows. none-some v (sym e ∙ ap shown_by (one_response w n r (Shows v) is shows))))
     found (Some u) e =
         let bit = same u v (λ other. sure (λ shows. other (same_Some u v (sym e ∙ ap shown_by (one_response w n r (Shows v) is shows))))) in
-        subst (λ (x : Bool). IsResponse w n (Shows x)) bit (subst (IsResponse w n) (response_is r u e) is)
+        subst (λ (x : Bool). IsResponse w n (Shows x)) bit (subst (IsResponse w n) (shown_is r u e) is)
 
 -- ---- a net at which no channel stands
 

@@ -8,11 +8,11 @@ use Rattle.channel_parts.specs.OneSolution.{AreDetermined}
 use Rattle.replaced_cells.proofs.BrokenLaws.{bit_at_port, breaks_there, ports_same}
 use Rattle.replaced_cells.proofs.MissedLaws.{apart_there, differs_there, enter_there, next_there}
 use Rattle.replaced_cells.proofs.SameResponses.{response_other}
-use Rattle.replaced_cells.proofs.States.{given_there}
 use Rattle.replaced_cells.proofs.OwnBits.{HaveOwnBits, calm_inside, inside_response, outside_response, own_state}
 use Rattle.replaced_cells.proofs.SolvedAlike.{always, free_inside, hidden_net, never_here, never_there, none_determined, own_bits, plain_back, plain_there, reached_inside, solution_shows}
 use Rattle.replaced_cells.specs.Faults.{FaultsAreShared, FaultsStandBelow, IsFaultless, IsSameIn}
 use Rattle.replaced_cells.specs.OneMoreWhole.{AreSolvedAlike, IsOneMoreWhole, all_bits}
+use Rattle.vrt_model.proofs.GatesGiven.{given_at_gives}
 use Rattle.vrt_model.proofs.Laws.{shows_no_float}
 use Rattle.vrt_model.specs.Assignment.{Assignment}
 use Rattle.vrt_model.specs.CellRules.{is_observed_port}
@@ -25,7 +25,7 @@ use Rattle.vrt_model.specs.Held.{setting_of}
 use Rattle.vrt_model.specs.Known.{IsPlain}
 use Rattle.vrt_model.specs.Lists.{Among, At}
 use Rattle.vrt_model.specs.Path.{Network}
-use Rattle.vrt_model.specs.Reading.{bare, kept}
+use Rattle.vrt_model.specs.Reading.{bare, is_given_at, kept}
 use Rattle.vrt_model.specs.Response.{Fight as FightResponse, Float as FloatResponse, IsResponse, Response, Shows}
 use Rattle.vrt_model.specs.State.{IsState, Setting, State, network_of}
 use Rattle.vrt_model.specs.declared.circuit.Circuit.{Circuit}
@@ -40,7 +40,7 @@ use Rattle.vrt_model.specs.declared.verdict.FaultKind.{FaultKind}
 use Rattle.vrt_model.specs.declared.verdict.FaultKind.TheVariants.{Fight, FightKept, Float, Unsettled, Constraint, Differs, Next, Apart, Enter}
 use Rattle.whole_solutions.proofs.GivenShow.{given_shows}
 use Rattle.whole_solutions.proofs.ObservedLaws.{observed_nets_are_there, whole_observes_no_more}
-use Rattle.whole_solutions.specs.Observed.{IsInstanceImage, is_given_at}
+use Rattle.whole_solutions.specs.Observed.{IsInstanceImage}
 
 -- where both values reach a net, they do not come from one pin
 two_values : (x : Bool) → x ≡ true → x ≡ false → ⊥
@@ -218,7 +218,7 @@ module _ (k q : Comparison) (phase : ℕ) (whole_circuit : Circuit) (at place fr
                       (λ shows. here ((out false n (Shows (s.reading n)) up.0).1 (subst (λ (v : Bool). IsResponse (whole false) n (Shows v)) bit shows))),
                 )
             | inr given ↦
-                let g_there = given_there whole_circuit n given in
+                let g_there = given_at_gives whole_circuit n given in
                 here (given_shows k.circuit one.ranges one.placed.pins_plain false setting.held s n (g_there.0, subst (λ (nets : List FlatNet). At nets n g_there.0) one.nets g_there.1, g_there.2))
           ]
           | inr (m, net, p, seen) ↦ own_faultless Unsettled m (

@@ -1,11 +1,11 @@
 -- What one state tells where the bits of all nets are given; and nets of a cell that meet gates alone, with the instance whole.
-use Rattle.std.proofs.Common.{◌≤◌, arith, ◌≡◌, ℕ, Bool, true, false, List, [], subst, sym, refl, ◌∙◌, ap, inl, inr}
+use Rattle.std.proofs.Common.{◌≡◌, ℕ, Bool, true, false, List, [], subst, sym, refl, ◌∙◌, ap, inl, inr}
 use Rattle.std.specs.Prelude.{◌↔◌}
 use Rattle.std.proofs.lemmas.Bool.{cases_Bool, false≢true}
 use Rattle.std.proofs.lemmas.Option.{none-some, same_Some}
 use Rattle.cell_inside.proofs.NetKinds.{plain_not_given}
 use Rattle.cell_inside.proofs.OneStateLaws.{one_state_says_all}
-use Rattle.cell_inside.proofs.OutputPins.{pin_found, pin_there}
+use Rattle.cell_inside.proofs.OutputPins.{pin_found}
 use Rattle.cell_inside.specs.Inside.{Touches}
 use Rattle.cell_inside.specs.OneState.{IsTotal}
 use Rattle.cell_inside.specs.Placed.{alone}
@@ -13,15 +13,13 @@ use Rattle.channel_parts.specs.OneSolution.{AreDetermined}
 use Rattle.known_nets.proofs.WiredLaws.{pin_of_whole}
 use Rattle.replaced_cells.proofs.SameResponses.{driven_same, root_alone}
 use Rattle.replaced_cells.specs.OneMoreWhole.{IsOneMoreWhole, all_bits}
-use Rattle.vrt_model.proofs.Laws.{level_below_root, shows_from}
-use Rattle.vrt_model.proofs.Lists.{one_at}
 use Rattle.vrt_model.specs.Comparison.{Comparison, is_observed, phase_at}
 use Rattle.vrt_model.specs.Faults.{NeverKeeps, Solves}
 use Rattle.vrt_model.specs.Held.{held_bit, setting_of, sources_of}
 use Rattle.vrt_model.specs.Levels.{source_level}
 use Rattle.vrt_model.specs.Known.{IsPlain}
 use Rattle.vrt_model.specs.Lists.{Among, At}
-use Rattle.vrt_model.specs.Path.{Hop, IsPath, IsRoot, Root, end_of, level_of, level_of_drive}
+use Rattle.vrt_model.specs.Path.{Hop, IsPath, IsRoot, Root, end_of, level_of_drive}
 use Rattle.vrt_model.specs.Reading.{kept}
 use Rattle.vrt_model.specs.Response.{IsResponse, Reaches, Response, Shows}
 use Rattle.vrt_model.specs.Solution.{AlwaysResponds}
@@ -146,30 +144,6 @@ module _ (k q : Comparison) (phase : ℕ) (whole_circuit : Circuit) (at place fr
       let ends : root.net ≡ at n = subst (λ (hs : List Hop). end_of root hs ≡ at n) alone e in
       let found = root_inside bare held r n root p hidden ends (subst (λ (hs : List Hop). IsPath (network_of whole_circuit bare held r) root hs) alone path) in
       (found.0, found.1, found.2, sym found.4 ∙ is)
-
-  -- the root that the pin at such a net is
-  abbrev pin_root : State → ℕ → OutputPin → Root
-  pin_root r n out = record { net = at n; level = level_of_drive (source_level whole_circuit) out.pin.drive; value = r.driven (fresh n) }
-
-  -- so it shows that
-  pub pin_shows : (bare : Bool) (held : ℕ → Bool) (r : State) (n : ℕ) (out : OutputPin) → IsPlain q.circuit n → exposed n ≡ false → At (output_pins whole_circuit) (fresh n) out → out.pin.net.0 ≡ at n
-      → IsResponse (network_of whole_circuit bare held r) (at n) (Shows (r.driven (fresh n)))
-  pin_shows bare held r n out p hidden e net = shows_from (network_of whole_circuit bare held r) (at n) (r.driven (fresh n))
-      (pin_root r n out, [], is, (bound, inr (pin_root r n out, [], is, refl, refl)), refl, refl) only
-    where
-      is : IsRoot (network_of whole_circuit bare held r) (pin_root r n out)
-      is = inr (inr (fresh n, out.pin, pin_there whole_circuit (fresh n) out e, sym net, refl, refl))
-
-      bound : (other : Root) (hops : List Hop) → IsPath (network_of whole_circuit bare held r) other hops → end_of other hops ≡ at n → level_of other hops ≤ level_of_drive (source_level whole_circuit) out.pin.drive
-      bound other hops path ends =
-          let alone = root_alone whole_circuit held r (at n) (free_inside n p hidden) bare other hops path ends in
-          let here = root_inside bare held r n other p hidden (subst (λ (hs : List Hop). end_of other hs ≡ at n) alone ends) (subst (λ (hs : List Hop). IsPath (network_of whole_circuit bare held r) other hs) alone path) in
-          let same : here.0 ≡ out = one_at (output_pins whole_circuit) (fresh n) here.0 out here.1 e in
-          let level : other.level ≡ level_of_drive (source_level whole_circuit) out.pin.drive = here.3 ∙ ap (λ (x : OutputPin). level_of_drive (source_level whole_circuit) x.pin.drive) same in
-          let most = level_below_root other hops in omega (arith, level, most)
-
-      only : (u : Bool) → Reaches (network_of whole_circuit bare held r) (at n) u → u ≡ r.driven (fresh n)
-      only u reached = sym (reached_inside bare held r n u p hidden reached).3
 
   -- ---- the cell alone
 

@@ -1,31 +1,29 @@
 -- States with any bits at the nets that have no given value, and solutions at given nets.
-use Rattle.std.proofs.Common.{◌≡◌, ℕ, Bool, true, false, cond, List, Option, Some, None, map, slice_get, subst, sym, refl, ◌∙◌, ap, inl, inr}
-use Rattle.std.specs.Prelude.{option_map, unwrap_or}
-use Rattle.std.proofs.lemmas.Bool.{cases_Bool, cond-false, cond-true, false≢true}
+use Rattle.std.proofs.Common.{◌≡◌, ℕ, Bool, true, false, cond, List, Option, Some, map, subst, sym, ◌∙◌, ap, inl, inr}
+use Rattle.std.specs.Prelude.{unwrap_or}
+use Rattle.std.proofs.lemmas.Bool.{cases_Bool, cond-false, cond-true}
 use Rattle.std.proofs.lemmas.Option.{same_Some}
 use Rattle.cell_inside.specs.Regions.{ArePinsPlain}
 use Rattle.channel_parts.proofs.DriveLaws.{driven_by, driven_gives}
 use Rattle.channel_parts.specs.OneSolution.{AreDetermined}
 use Rattle.known_nets.proofs.WiredLaws.{pin_of_whole}
 use Rattle.replaced_cells.specs.OneMoreWhole.{HasSameSignal}
-use Rattle.vrt_model.proofs.GatesGiven.{IsGiven, base_reading, given_once, plain_any}
+use Rattle.vrt_model.proofs.GatesGiven.{IsGiven, base_reading, given_at_gives, given_at_is, given_once, plain_any}
 use Rattle.vrt_model.proofs.Members.{among_map}
 use Rattle.vrt_model.specs.Assignment.{Obeys, Tied}
 use Rattle.vrt_model.specs.Constraints.{given_bit}
-use Rattle.vrt_model.specs.Lists.{Among, At}
+use Rattle.vrt_model.specs.Lists.{Among}
 use Rattle.vrt_model.specs.Networks.{HasRanges}
-use Rattle.vrt_model.specs.Reading.{HasGivenBit, IsReading, Partial, bare, is_given}
+use Rattle.vrt_model.specs.Reading.{HasGivenBit, IsReading, Partial, bare, is_given, is_given_at}
 use Rattle.vrt_model.specs.Response.{IsResponse, Shows}
 use Rattle.vrt_model.specs.Solution.{Agrees, IsSolution, SameObserved}
 use Rattle.vrt_model.specs.State.{IsState, ModelGives, OutputPin, Setting, State, network_of}
 use Rattle.vrt_model.specs.declared.circuit.Circuit.{Circuit}
-use Rattle.vrt_model.specs.declared.circuit.FlatNet.{FlatNet}
 use Rattle.vrt_model.specs.declared.flat_model.FlatModel.{FlatModel}
 use Rattle.vrt_model.specs.declared.pairing.ClockedSignal.{ClockedSignal}
 use Rattle.vrt_model.specs.declared.rules.Phase.{Phase}
 use Rattle.vrt_model.specs.declared.whole.WholePin.{WholePin}
 use Rattle.whole_solutions.proofs.GivenShow.{given_shows}
-use Rattle.whole_solutions.specs.Observed.{is_given_at}
 
 -- ---- solutions
 
@@ -53,17 +51,6 @@ given_solved c phase observed setting a ranges pins solves reading reads n o g =
 abbrev pub with_given : Circuit → Phase → (ℕ → Bool) → (ℕ → Bool) → ℕ → Bool
 with_given c phase inputs bits n = cond (is_given_at c n) (given_bit c phase inputs n) (bits n)
 
-pub given_at_is : (c : Circuit) (n : ℕ) (net : FlatNet) → At c.nets n net → is_given_at c n ≡ is_given net.kind
-given_at_is c n net e = ap (λ (o : Option FlatNet). unwrap_or (option_map (λ (x : FlatNet). is_given x.kind) o) false) e
-
--- a net that passes the test has a given value
-pub given_there : (c : Circuit) (n : ℕ) → is_given_at c n ≡ true → IsGiven c n
-given_there c n t = found (slice_get c.nets n) refl t
-  where
-    found : (o : Option FlatNet) → slice_get c.nets n ≡ o → unwrap_or (option_map (λ (net : FlatNet). is_given net.kind) o) false ≡ true → IsGiven c n
-    found None e f = absurd (false≢true f)
-    found (Some net) e g = (net, e, g)
-
 pub with_given_reads : (c : Circuit) (phase : Phase) (inputs bits : ℕ → Bool) → IsReading c phase inputs (with_given c phase inputs bits)
 with_given_reads c phase inputs bits n net e =
     elim (cases_Bool (is_given net.kind)) [
@@ -80,7 +67,7 @@ with_given_agrees c phase observed setting a ranges pins solves n v o e =
       | inl t ↦
           same_Some (with_given c phase setting.inputs (λ m. unwrap_or (a m) false) n) v
           (sym (given_solved c phase observed setting a ranges pins solves (with_given c phase setting.inputs (λ m. unwrap_or (a m) false))
-          (with_given_reads c phase setting.inputs (λ m. unwrap_or (a m) false)) n o (given_there c n t)) ∙ e)
+          (with_given_reads c phase setting.inputs (λ m. unwrap_or (a m) false)) n o (given_at_gives c n t)) ∙ e)
       | inr f ↦ cond-false (is_given_at c n) (given_bit c phase setting.inputs n) (unwrap_or (a n) false) f ∙ ap (λ (x : Option Bool). unwrap_or x false) e
     ]
 

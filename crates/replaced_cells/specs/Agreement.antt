@@ -1,7 +1,7 @@
 -- Bits of a circuit with a cell in it, and of the circuit with this instance whole; and where nothing is wrong in either.
 use Rattle.std.specs.Prelude.{◌≡◌, ◌↔◌, ◌⊎◌, ℕ, ◌<◌, Bool, true, List, IsSome, length}
 use Rattle.channel_parts.specs.OneSolution.{HasOneSolution}
-use Rattle.replaced_cells.specs.OneMoreWhole.{AreSolvedAlike, IsOneMoreWhole, no_net}
+use Rattle.replaced_cells.specs.OneMoreWhole.{AreSolvedAlike, IsOneMoreWhole}
 use Rattle.vrt_model.specs.Assignment.{Assignment}
 use Rattle.vrt_model.specs.Checked.{with_circuit}
 use Rattle.vrt_model.specs.Comparison.{Comparison, is_observed, phase_at}
@@ -36,16 +36,6 @@ BitsGoDown =
     → ¬ BreaksConstraint k.design k.rules phase a one.instance.0
     → HaveSameBits k q phase whole_circuit at place fresh remaining setting
 
--- The law: so there are where one of the circuit with the cell in it has, and each output meets gates alone.
-abbrev pub BitsGoUp : Type 0
-BitsGoUp =
-    (k q : Comparison) (phase : ℕ) (whole_circuit : Circuit) (at place fresh : ℕ → ℕ) (remaining compared : ℕ → Bool) (drive : ℕ → ℕ) (setting : Setting) (a : Partial)
-    → (one : IsOneMoreWhole k q phase whole_circuit at place fresh remaining compared no_net drive)
-    → Solves k phase setting a
-    → ((n : ℕ) → is_observed k phase n ≡ true → IsSome (a n))
-    → ¬ BreaksConstraint k.design k.rules phase a one.instance.0
-    → HaveSameBits k q phase whole_circuit at place fresh remaining setting
-
 -- ---- nothing is wrong
 
 -- The law: where nothing is wrong with the instance whole, nothing is wrong with the cell in its place, where there is one solution.
@@ -55,15 +45,6 @@ AgreementGoesDown =
     → IsOneMoreWhole k q phase whole_circuit at place fresh remaining compared exposed drive
     → HasOneSolution k.circuit (phase_at k.rules phase) (is_observed k phase) setting
     → Agree (with_circuit k whole_circuit) phase setting → Agree k phase setting
-
--- The law: where nothing is wrong with the cell in the circuit, nothing is wrong with the instance whole, where there is one solution
--- and each output meets gates alone.
-abbrev pub AgreementGoesUp : Type 0
-AgreementGoesUp =
-    (k q : Comparison) (phase : ℕ) (whole_circuit : Circuit) (at place fresh : ℕ → ℕ) (remaining compared : ℕ → Bool) (drive : ℕ → ℕ) (setting : Setting)
-    → IsOneMoreWhole k q phase whole_circuit at place fresh remaining compared no_net drive
-    → HasOneSolution whole_circuit (phase_at k.rules phase) (is_observed (with_circuit k whole_circuit) phase) setting
-    → Agree k phase setting → Agree (with_circuit k whole_circuit) phase setting
 
 -- ---- from the faults of the bare stage
 
@@ -114,16 +95,8 @@ pub record HaveSameValuations (k j : Comparison) : Type 0 where
   pub settings : (phase : ℕ) (bits : List Bool) → setting_of j phase bits ≡ setting_of k phase bits
   pub meets : (phase : ℕ) (bits : List Bool) → Meets j phase bits ↔ Meets k phase bits
 
--- The law: where one more instance is whole in each phase, each of its outputs meets gates alone, and both circuits are always solved,
--- the two agree.
-abbrev pub OneMoreWholeAgrees : Type 0
-OneMoreWholeAgrees =
-    (k q : Comparison) (whole_circuit : Circuit) (at place fresh : ℕ → ℕ) (remaining compared : ℕ → Bool) (drive : ℕ → ℕ)
-    → ((phase : ℕ) → phase < length k.rules.phases → IsOneMoreWhole k q phase whole_circuit at place fresh remaining compared no_net drive)
-    → IsAlwaysSolved k → IsAlwaysSolved (with_circuit k whole_circuit) → HaveSameValuations k (with_circuit k whole_circuit)
-    → AgreesWith k (with_circuit k whole_circuit)
-
--- The law: so they do where outputs may be exposed, and in each phase and at each valuation the faults of the bare stage tell so much.
+-- The law: where one more instance is whole in each phase, both circuits are always solved, and in each phase and at each valuation the
+-- faults of the bare stage tell so much, the two agree.
 abbrev pub OneMoreWholeAgreesByFaults : Type 0
 OneMoreWholeAgreesByFaults =
     (k q : Comparison) (whole_circuit : Circuit) (at place fresh : ℕ → ℕ) (remaining compared exposed : ℕ → Bool) (drive : ℕ → ℕ)

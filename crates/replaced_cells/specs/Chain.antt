@@ -1,7 +1,7 @@
--- Comparisons over the circuits of a chain: valuations give the same in all of them, and agreement goes from step to step.
-use Rattle.std.specs.Prelude.{◌≡◌, ℕ, suc, ◌<◌, List}
+-- Comparisons over the circuits of a chain: valuations give the same in all of them.
+use Rattle.std.specs.Prelude.{◌≡◌, ℕ, List}
 use Rattle.checked_chain.specs.Holds.{IsOfChain}
-use Rattle.replaced_cells.specs.Agreement.{AgreesWith, HaveSameValuations}
+use Rattle.replaced_cells.specs.Agreement.{HaveSameValuations}
 use Rattle.vrt_model.specs.Checked.{with_circuit}
 use Rattle.vrt_model.specs.Comparison.{Comparison}
 use Rattle.vrt_model.specs.Cut.{Cut}
@@ -22,11 +22,3 @@ ChainKeepsValuations =
     (k : Comparison) (blif : Blif) (facts : List CellFacts) (cut next : Cut) (c d : Circuit)
     → IsOfChain k blif facts cut c → IsOfChain k blif facts next d
     → HaveSameNets k c d × HaveSameValuations (with_circuit k c) (with_circuit k d)
-
--- The law: where each circuit of a row agrees with the next, the first agrees with each.
-abbrev pub AgreementFollowsChain : Type 0
-AgreementFollowsChain =
-    (k : Comparison) (c : ℕ → Circuit) (n : ℕ)
-    → AgreesWith k (with_circuit k (c 0))
-    → ((i : ℕ) → i < n → AgreesWith (with_circuit k (c i)) (with_circuit k (c (suc i))))
-    → AgreesWith k (with_circuit k (c n))

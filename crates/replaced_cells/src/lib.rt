@@ -10,11 +10,11 @@ mod faults;
 mod levels;
 
 pub use agreement::{
-    agreement_goes_down, agreement_goes_up, agreement_goes_up_by_faults, agreement_is_transitive,
-    one_more_whole_agrees, one_more_whole_agrees_by_faults,
+    agreement_goes_down, agreement_goes_up_by_faults, agreement_is_transitive,
+    one_more_whole_agrees_by_faults,
 };
-pub use bits::{bits_go_down, bits_go_up};
-pub use chain::{agreement_follows_chain, chain_keeps_valuations};
+pub use bits::bits_go_down;
+pub use chain::chain_keeps_valuations;
 pub use faults::{
     faults_are_shared, faults_stand_below, observed_bits_show_faults, printed_values_are_same,
 };

@@ -9,7 +9,7 @@ use Rattle.checked_chain.proofs.DriveLaws.{nothing_in}
 use Rattle.replaced_instances.proofs.Exposures.{channel_at_net}
 use Rattle.vrt_model.proofs.Filtered.{device_among}
 use Rattle.vrt_model.proofs.Members.{all_among}
-use Rattle.vrt_model.proofs.Scales.{least_below}
+use Rattle.vrt_model.proofs.Scales.{least_above, least_below}
 use Rattle.vrt_model.specs.Circuits.{IsDevice}
 use Rattle.vrt_model.specs.Comparison.{Comparison, is_observed, phase_at}
 use Rattle.vrt_model.specs.Constraints.{Meets}
@@ -32,7 +32,6 @@ use Rattle.vrt_model.specs.declared.circuit.Hold.{Hold}
 use Rattle.vrt_model.specs.declared.verdict.FaultKind.TheVariants.{Float as FloatFault}
 use Rattle.vrt_model.specs.declared.whole.Whole.{Whole}
 use Rattle.vrt_model.specs.declared.whole.WholePin.{WholePin}
-use Rattle.whole_solutions.proofs.LeastLevels.{least_above}
 
 first_of : {X : Type 0} (xs : List X) → (is_empty xs ≡ true → ⊥) → (x : X) × Among xs x
 first_of [] some = absurd (some refl)

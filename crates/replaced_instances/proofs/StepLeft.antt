@@ -400,7 +400,7 @@ module _ (cut : Cut) (blif : Blif) (facts : List CellFacts) (i : ℕ) (p : Numbe
 
     pub left_whole : IsLeftWhole k.circuit c whole_circuit at (λ n. n) (λ j. j) (fresh_place (before cut i) blif facts k) remaining compared exposed drive
     left_whole = record {
-      source = (same_source c whole_circuit 0 (circuit.source ∙ sym after.source)).0;
+      source = same_source c whole_circuit (circuit.source ∙ sym after.source);
       nets = λ n net stays here. (net, subst (λ (nets : List FlatNet). At nets n net) (circuit.nets ∙ sym after.nets) here, refl);
       nets_back = λ n net stays here. (net, subst (λ (nets : List FlatNet). At nets n net) (after.nets ∙ sym circuit.nets) here, refl);
       moved_apart = λ a b one other same. same;

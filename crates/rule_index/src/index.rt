@@ -1,6 +1,6 @@
 //! The tables of a netlist and its rules.
 
-ghost use Rattle.std.specs.Prelude.{◌≡◌, ℕ, List, OnOk, IfOk};
+ghost use Rattle.std.specs.Prelude.{OnOk, IfOk};
 ghost use Rattle.rule_index.specs.Tables.{AreIndexed, IsFreshIndex};
 
 use crate::cells::note_cells;

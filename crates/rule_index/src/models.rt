@@ -13,7 +13,7 @@ use vrt_model::{Design, DeviceRule, Kind, ModelCard, NoMemory, Rules};
 pub struct Declared {
     /// Whether the transistors of the model conduct at gate 1 or at gate 0.
     pub kind: Kind,
-    /// The level of these transistors, 4 to 7.
+    /// The level of these transistors, one of devices.
     pub level: u8,
 }
 

@@ -1,8 +1,9 @@
 -- Levels and sizes of lines are in their ranges.
-use Rattle.std.proofs.Common.{◌≡◌, ◌∷◌, ◌≤◌, ◌+◌, ◌-◌, ◌==◌, ◌&&◌, ◌||◌, ◌⊎◌, nat_le, not, [], ℕ, List, Bool, true, false, cond, map, Option, Some, None, option_map, codes, bytes_eq, refl, arith, inl, inr}
+use Rattle.std.proofs.Common.{◌≡◌, ◌∷◌, ◌≤◌, ◌<◌, ◌+◌, ◌-◌, ◌==◌, ◌&&◌, ◌||◌, nat_le, not, [], ℕ, List, Bool, true, false, cond, map, Option, Some, None, option_map, codes, bytes_eq, refl, arith, inl, inr}
 use Rattle.std.specs.List.{list_all}
 use Rattle.std.proofs.lemmas.Bool.{and_parts, leb-true}
 use Rattle.text_lines.specs.Bytes.{lowered}
+use Rattle.vrt_model.specs.Levels.{IsDeviceLevelAt, IsHoldSizeAt, IsScale, fine_scale, least_at, source_at, usual_scale}
 use Rattle.vrt_model.specs.Lists.{is_empty}
 use Rattle.rules_lines.specs.Lines.{assume_entry, clock_entry, clocked_entry, clockport_entry, defaultclock_entry, device_by, device_entry, enter_entry, entry_by, entry_of, has_equals, hold_entry, keeper_entry, match_by, match_entry, observe_entry, pair_entry, phase_entry, port_entry, scale_entry, strength_entry, supply_entry}
 use Rattle.rules_lines.specs.Words.{bit_of, cut_first, digit_in, fine_level, kind_of, level_of, size_of, usual_level, usual_size}
@@ -15,15 +16,20 @@ abbrev pub InRange : ℕ → ℕ → Option ℕ → Type 0
 InRange least greatest None = Unit {0}
 InRange least greatest (Some n) = (least ≤ n) × (n ≤ greatest)
 
+-- a number that is there is of this kind
+abbrev pub IfThere : (ℕ → Type 0) → Option ℕ → Type 0
+IfThere Is None = Unit {0}
+IfThere Is (Some n) = Is n
+
 -- a level and a size at both scales
 abbrev pub IsLevelByScale : ByScale → Type 0
-IsLevelByScale level = InRange 4 7 level.eight × InRange 6 14 level.sixteen
+IsLevelByScale level = IfThere (IsDeviceLevelAt usual_scale) level.eight × IfThere (IsDeviceLevelAt fine_scale) level.sixteen
 
 abbrev pub IsSizeByScale : ByScale → Type 0
-IsSizeByScale size = InRange 1 3 size.eight × InRange 1 5 size.sixteen
+IsSizeByScale size = IfThere (IsHoldSizeAt usual_scale) size.eight × IfThere (IsHoldSizeAt fine_scale) size.sixteen
 
 abbrev pub Ranged : Entry → Type 0
-Ranged (ScaleLine scale) = (scale ≡ 8) ⊎ (scale ≡ 16)
+Ranged (ScaleLine scale) = IsScale scale
 Ranged (DeviceLine model kind level) = IsLevelByScale level
 Ranged (StrengthLine cell device level) = IsLevelByScale level
 Ranged (HoldLine cell net size) = IsSizeByScale size
@@ -62,14 +68,29 @@ fine_range (b ∷ c ∷ []) = by_test (b == 49) (digit_in 0 4 (c ∷ [])) (in_ra
   by_test true None r = tt
   by_test true (Some n) r = let to = r.1 in (omega arith, omega (arith, to))
 
+-- numbers of a range within that of a scale
+level_there : (scale least greatest : ℕ) (o : Option ℕ) → least_at scale ≤ least → greatest < source_at scale → InRange least greatest o → IfThere (IsDeviceLevelAt scale) o
+level_there scale least greatest None low high range = tt
+level_there scale least greatest (Some n) low high range = let from = range.0 in let to = range.1 in (omega (arith, low, from), omega (arith, high, to))
+
+size_there : (scale greatest : ℕ) (o : Option ℕ) → greatest < least_at scale → InRange 1 greatest o → IfThere (IsHoldSizeAt scale) o
+size_there scale greatest None high range = tt
+size_there scale greatest (Some n) high range = (range.0, (let to = range.1 in omega (arith, high, to)))
+
 level_range : (word : List ℕ) → IsLevelByScale (level_of word)
-level_range word = (in_range 4 7 word, fine_range word)
+level_range word = (
+  level_there usual_scale 4 7 (digit_in 4 7 word) (omega arith) (omega arith) (in_range 4 7 word),
+  level_there fine_scale 6 14 (fine_level word) (omega arith) (omega arith) (fine_range word),
+)
 
 usual_level_range : IsLevelByScale usual_level
 usual_level_range = ((omega arith, omega arith), (omega arith, omega arith))
 
 size_range : (word : List ℕ) → IsSizeByScale (size_of word)
-size_range word = (in_range 1 3 word, in_range 1 5 word)
+size_range word = (
+  size_there usual_scale 3 (digit_in 1 3 word) (omega arith) (in_range 1 3 word),
+  size_there fine_scale 5 (digit_in 1 5 word) (omega arith) (in_range 1 5 word),
+)
 
 usual_size_range : IsSizeByScale usual_size
 usual_size_range = ((omega arith, omega arith), (omega arith, omega arith))
@@ -80,7 +101,7 @@ either false x y p q = q
 
 says_scale : (words : List (List ℕ)) → Said (scale_entry words)
 says_scale (word ∷ []) = by_tests (bytes_eq word (codes "8")) (bytes_eq word (codes "16")) where
-  by_tests : (a b : Bool) → Said (option_map ScaleLine (cond a (Some 8) (cond b (Some 16) None)))
+  by_tests : (a b : Bool) → Said (option_map ScaleLine (cond a (Some usual_scale) (cond b (Some fine_scale) None)))
   by_tests true b = inl refl
   by_tests false true = inr refl
   by_tests false false = tt

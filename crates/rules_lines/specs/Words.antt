@@ -4,6 +4,7 @@ use Rattle.std.specs.List.{position}
 use Rattle.text_lines.specs.Bytes.{starts}
 use Rattle.rules_lines.specs.declared.entry.ByScale.{ByScale}
 use Rattle.rules_lines.specs.declared.entry.Signed.{Signed}
+use Rattle.vrt_model.specs.Levels.{fine_scale, usual_at, usual_scale}
 use Rattle.vrt_model.specs.declared.design.Kind.{Kind}
 use Rattle.vrt_model.specs.declared.design.Kind.TheVariants.{N, P}
 
@@ -24,7 +25,7 @@ level_of word = record { eight = digit_in 4 7 word; sixteen = fine_level word }
 
 -- the level of a `device` line without LEVEL
 abbrev pub usual_level : ByScale
-usual_level = record { eight = Some 6; sixteen = Some 10 }
+usual_level = record { eight = Some (usual_at usual_scale); sixteen = Some (usual_at fine_scale) }
 
 -- SIZE is 1 to 3 at scale 8, and 1 to 5 at scale 16.
 abbrev pub size_of : List ℕ → ByScale
@@ -36,10 +37,10 @@ usual_size = record { eight = Some 1; sixteen = Some 1 }
 
 -- a level or a size at one of the scales
 abbrev pub at_scale : ℕ → ByScale → Option ℕ
-at_scale scale amount = if scale == 16 then amount.sixteen else amount.eight
+at_scale scale amount = if scale == fine_scale then amount.sixteen else amount.eight
 
 abbrev pub scale_of : List ℕ → Option ℕ
-scale_of word = if bytes_eq word (codes "8") then Some 8 else (if bytes_eq word (codes "16") then Some 16 else None)
+scale_of word = if bytes_eq word (codes "8") then Some usual_scale else (if bytes_eq word (codes "16") then Some fine_scale else None)
 
 abbrev pub bit_of : List ℕ → Option Bool
 bit_of word = if bytes_eq word (codes "0") then Some false else (if bytes_eq word (codes "1") then Some true else None)

@@ -5,7 +5,7 @@ ghost use Rattle.rules_lines.specs.Words.{at_scale};
 
 use rules_expression::Tokens;
 use text_lines::WordList;
-use vrt_model::{Kind, Seq, Text};
+use vrt_model::{FINE_SCALE, Kind, Seq, Text};
 
 /// A name with or without `!`.
 pub struct Signed {
@@ -39,7 +39,7 @@ impl ByScale {
     pub fn at(&self, scale: u8) -> Option<u8>
         ensures { result ≡ at_scale scale self.now }
     {
-        if scale == 16 {
+        if scale == FINE_SCALE {
             self.sixteen
         } else {
             self.eight

@@ -7,7 +7,7 @@ ghost use Rattle.rules_lines.specs.Words.{bit_of, cut_first, digit_in, fine_leve
 use crate::entry::{ByScale, Signed};
 use std::alloc::Global;
 use text_lines::first_place;
-use vrt_model::{Kind, NoMemory, Text};
+use vrt_model::{FINE_SCALE, Kind, NoMemory, Text, USUAL_SCALE, usual_at};
 
 /// A name, lowered.
 pub fn lower(alloc: Global, word: &[u8]) -> Result<Text, NoMemory>
@@ -60,7 +60,7 @@ fn ten_and(last: u8) -> Option<u8>
     }
 }
 
-/// A level of scale 16.
+/// A level of the fine scale.
 fn fine(word: &[u8]) -> Option<u8>
     ensures { result ≡ fine_level word.now }
 {
@@ -85,8 +85,8 @@ pub fn usual_level() -> ByScale
     ensures { result ≡ usual_level }
 {
     ByScale {
-        eight: Some(6),
-        sixteen: Some(10),
+        eight: Some(usual_at(USUAL_SCALE)),
+        sixteen: Some(usual_at(FINE_SCALE)),
     }
 }
 
@@ -115,10 +115,10 @@ pub fn scale(word: &[u8]) -> Option<u8>
     ensures { result ≡ scale_of word.now }
 {
     if word == b"8".as_slice() {
-        return Some(8);
+        return Some(USUAL_SCALE);
     }
     if word == b"16".as_slice() {
-        return Some(16);
+        return Some(FINE_SCALE);
     }
     None
 }

@@ -13,6 +13,7 @@ use Rattle.rules_reader.specs.declared.cards.Card.{Card}
 use Rattle.rules_reader.specs.declared.known.Known.{Known}
 use Rattle.rules_reader.specs.declared.faults.RulesFault.{RulesFault}
 use Rattle.rules_reader.specs.declared.faults.RulesFault.TheVariants.{NoMemory}
+use Rattle.vrt_model.specs.Levels.{usual_scale}
 
 -- the fault by the count and what is known is that by the lines
 by_cards : (cards left listed : List Card) (known : Known) (card : Card) (r : Reads cards left known listed) → fault_of (take r.place cards) card ≡ fault_by (length listed) known card
@@ -46,7 +47,7 @@ fault_of_text text f h = let P : List Card → Type 0 = λ cards. (f ≡ NoMemor
 
 -- nothing is known at first
 pub starts : (clocks phases keys : List (List ℕ)) → clocks ≡ [] → phases ≡ [] → keys ≡ []
-    → (let k : Known = record { clocks = clocks; phases = phases; keys = keys; is_phase_named = false; scale = 8; has_levels = false } in k) ≡ known_by []
+    → (let k : Known = record { clocks = clocks; phases = phases; keys = keys; is_phase_named = false; scale = usual_scale; has_levels = false } in k) ≡ known_by []
 unfolding known_by clocks_of phase_names_of scale_by
 starts clocks phases keys c p k = same_known c p k refl refl refl
 

@@ -1,5 +1,5 @@
 -- Lines without a fault are rules as later calls ask for them.
-use Rattle.std.proofs.Common.{◌≡◌, ◌++◌, ◌∷◌, ◌≤◌, ◌<◌, ◌+◌, ◌==◌, ◌&&◌, ◌||◌, ◌⊎◌, [], ℕ, List, Bool, true, false, cond, length, map, Option, Some, None, is_none, option_map, unwrap_or, codes, refl, ap, ap₂, sym, subst, ◌∙◌, arith, inl}
+use Rattle.std.proofs.Common.{◌≡◌, ◌++◌, ◌∷◌, ◌≤◌, ◌<◌, ◌==◌, ◌&&◌, ◌||◌, [], ℕ, List, Bool, true, false, cond, length, map, Option, Some, None, is_none, option_map, unwrap_or, codes, refl, ap, ap₂, sym, subst, ◌∙◌, arith, inl}
 use Rattle.std.specs.Prelude.{All, bytes_eq}
 use Rattle.std.proofs.lemmas.Bool.{and_parts, eqb-true, or_from, or_parts}
 use Rattle.std.proofs.lemmas.List.{length-map}
@@ -22,7 +22,7 @@ use Rattle.rules_lines.specs.declared.entry.Entry.TheVariants.{ScaleLine, Device
 use Rattle.rules_reader.proofs.Fine.{AllSay, keys_apart}
 use Rattle.rules_reader.proofs.Keyed.{NamesBack, clockport_key, clockports_keyed, defaultclock_key, defaultclocks_keyed, device_key, devices_keyed, enter_key, enters_keyed, hold_key, holds_keyed, in_cell, in_table, instance_match_key, instance_matches_keyed, keeper_key, keepers_keyed, match_key, matches_keyed, observe_key, observes_keyed, pair_key, pairs_keyed, phase_key, phases_keyed, port_key, ports_keyed, strength_key, strengths_keyed, supplies_keyed, supply_key, within_cell}
 use Rattle.rules_expression.proofs.Operators.{few_of, few_seen, operators_of}
-use Rattle.rules_lines.proofs.Ranged.{InRange, IsLevelByScale, IsSizeByScale, Ranged}
+use Rattle.rules_lines.proofs.Ranged.{IfThere, IsLevelByScale, IsSizeByScale, Ranged}
 use Rattle.rules_lines.specs.Words.{at_scale}
 use Rattle.rules_lines.specs.declared.entry.ByScale.{ByScale}
 use Rattle.rules_reader.proofs.Ranged.{ranged}
@@ -31,6 +31,7 @@ use Rattle.rules_reader.proofs.Tabled.{both_say, known_one, map_join, name_back,
 use Rattle.rules_reader.proofs.Within.{apart_by_key, no_repeat_within, two_same}
 use Rattle.vrt_model.specs.Expressions.{operators_in}
 use Rattle.vrt_model.specs.Inputs.{AllApart, AreRules, IsPhaseOf}
+use Rattle.vrt_model.specs.Levels.{IsDeviceLevelAt, IsHoldSizeAt, IsScale, fine_scale, least_by, source_by, usual_scale}
 use Rattle.vrt_model.specs.declared.rules.AssumeRule.{AssumeRule}
 use Rattle.vrt_model.specs.declared.rules.ClockportRule.{ClockportRule}
 use Rattle.vrt_model.specs.declared.rules.DefaultclockRule.{DefaultclockRule}
@@ -54,37 +55,28 @@ use Rattle.vrt_model.specs.declared.rules.StrengthRule.{StrengthRule}
 abbrev Good : ℕ → List (List ℕ) → List (List ℕ) → Entry → Type 0
 Good scale clocks phases e = Settled scale clocks phases e × Ranged e
 
--- a number that is there, above the greatest of its range by one at most
-there : (least greatest above : ℕ) (o : Option ℕ) → above ≡ greatest + 1 → is_none o ≡ false → InRange least greatest o → (least ≤ unwrap_or o 0) × (unwrap_or o 0 < above)
-there least greatest above None is good range = cc
-there least greatest above (Some n) is good range = let from = range.0 in let to = range.1 in (from, omega (arith, is, to))
+-- a number that is there
+there : (Is : ℕ → Type 0) (o : Option ℕ) → is_none o ≡ false → IfThere Is o → Is (unwrap_or o 0)
+there Is None good is = cc
+there Is (Some n) good is = is
 
--- a level of devices at a scale
-abbrev IsLevelAt : ℕ → ℕ → Type 0
-IsLevelAt scale level = (cond (scale == 16) 6 4 ≤ level) × (level < cond (scale == 16) 15 8)
+-- a level of devices, by whether the scale is the fine one
+level_good : (scale : ℕ) (level : ByScale) → is_none (at_scale scale level) ≡ false → IsLevelByScale level → IsDeviceLevelAt scale (unwrap_or (at_scale scale level) 0)
+level_good scale level good range = by_test (scale == fine_scale) good where
+  by_test : (fine : Bool) → is_none (cond fine level.sixteen level.eight) ≡ false
+      → (least_by fine ≤ unwrap_or (cond fine level.sixteen level.eight) 0) × (unwrap_or (cond fine level.sixteen level.eight) 0 < source_by fine)
+  by_test true good = there (IsDeviceLevelAt fine_scale) level.sixteen good range.1
+  by_test false good = there (IsDeviceLevelAt usual_scale) level.eight good range.0
 
-level_good : (scale : ℕ) (level : ByScale) → is_none (at_scale scale level) ≡ false → IsLevelByScale level → IsLevelAt scale (unwrap_or (at_scale scale level) 0)
-level_good scale level good range = by_test (scale == 16) good where
-  by_test : (b : Bool) → is_none (cond b level.sixteen level.eight) ≡ false
-      → (cond b 6 4 ≤ unwrap_or (cond b level.sixteen level.eight) 0) × (unwrap_or (cond b level.sixteen level.eight) 0 < cond b 15 8)
-  by_test true good = there 6 14 15 level.sixteen (omega arith) good range.1
-  by_test false good = there 4 7 8 level.eight (omega arith) good range.0
-
--- a size of holds at a scale
-abbrev IsSizeAt : ℕ → ℕ → Type 0
-IsSizeAt scale size = (1 ≤ size) × (size < cond (scale == 16) 6 4)
-
-size_good : (scale : ℕ) (size : ByScale) → is_none (at_scale scale size) ≡ false → IsSizeByScale size → IsSizeAt scale (unwrap_or (at_scale scale size) 0)
-size_good scale size good range = by_test (scale == 16) good where
-  by_test : (b : Bool) → is_none (cond b size.sixteen size.eight) ≡ false
-      → (1 ≤ unwrap_or (cond b size.sixteen size.eight) 0) × (unwrap_or (cond b size.sixteen size.eight) 0 < cond b 6 4)
-  by_test true good = there 1 5 6 size.sixteen (omega arith) good range.1
-  by_test false good = there 1 3 4 size.eight (omega arith) good range.0
+-- a size of holds
+size_good : (scale : ℕ) (size : ByScale) → is_none (at_scale scale size) ≡ false → IsSizeByScale size → IsHoldSizeAt scale (unwrap_or (at_scale scale size) 0)
+size_good scale size good range = by_test (scale == fine_scale) good where
+  by_test : (fine : Bool) → is_none (cond fine size.sixteen size.eight) ≡ false
+      → (1 ≤ unwrap_or (cond fine size.sixteen size.eight) 0) × (unwrap_or (cond fine size.sixteen size.eight) 0 < least_by fine)
+  by_test true good = there (IsHoldSizeAt fine_scale) size.sixteen good range.1
+  by_test false good = there (IsHoldSizeAt usual_scale) size.eight good range.0
 
 -- the scale is one of the two
-abbrev IsScale : ℕ → Type 0
-IsScale scale = (scale ≡ 8) ⊎ (scale ≡ 16)
-
 one_scale : (cards : List Card) (scale : ℕ) → IsScale scale → AllSay Ranged cards → IsScale (scale_from scale (told scales_in cards))
 one_scale [] scale is all = is
 one_scale (card ∷ cards) scale is all = by_said card.entry all.0 (λ s e. one_scale cards s e all.1) where
@@ -99,19 +91,19 @@ one_scale (card ∷ cards) scale is all = by_said card.entry all.0 (λ s e. one_
 
 is_scale : (cards : List Card) → AllSay Ranged cards → IsScale (scale_by cards)
 unfolding scale_by
-is_scale cards all = one_scale cards 8 (inl refl) all
+is_scale cards all = one_scale cards usual_scale (inl refl) all
 
 single : {X : Type 0} (Q : X → Type 0) (x : X) → Q x → All Q (x ∷ [])
 single Q x q = All-cons Q x [] q (All-nil Q)
 
 abbrev HasLevel : ℕ → DeviceRule → Type 0
-HasLevel scale d = IsLevelAt scale d.level
+HasLevel scale d = IsDeviceLevelAt scale d.level
 
 abbrev HasStrength : ℕ → StrengthRule → Type 0
-HasStrength scale s = IsLevelAt scale s.level
+HasStrength scale s = IsDeviceLevelAt scale s.level
 
 abbrev HasSize : ℕ → HoldRule → Type 0
-HasSize scale h = IsSizeAt scale h.size
+HasSize scale h = IsHoldSizeAt scale h.size
 
 abbrev HasClock : List (List ℕ) → ClockportRule → Type 0
 HasClock clocks c = c.clock.clock < length clocks
@@ -409,12 +401,12 @@ fits text r clean are =
           (apart_by_key supply_key same_supplies (λ x y e. table_key (codes "supply ") x.net y.net e) (table supplies_in cards) (no_repeat_within (table_within supplies_in supply_key (Good scale clocks phases) (λ line e g. supplies_keyed line e) cards good) keys));
       devices = subst (AllApart same_devices) (sym devices_are)
           (apart_by_key device_key same_devices (λ x y e. table_key (codes "device ") x.model y.model e) (table (devices_in scale) cards) (no_repeat_within (table_within (devices_in scale) device_key (Good scale clocks phases) (λ line e g. devices_keyed scale line e) cards good) keys));
-      device_levels = subst (λ s. All (λ (d : DeviceRule). IsLevelAt s d.level) r.devices) (sym are.scale_is)
+      device_levels = subst (λ s. All (λ (d : DeviceRule). IsDeviceLevelAt s d.level) r.devices) (sym are.scale_is)
           (subst (All (HasLevel scale)) (sym devices_are) (table_all (devices_in scale) (HasLevel scale) (Good scale clocks phases) (devices_level scale clocks phases) cards good));
       strengths = subst (AllApart same_strengths) (sym strengths_are)
           (apart_by_key strength_key same_strengths (λ x y e. cell_key (codes "strength ") x.cell y.cell x.device y.device e) (table (strengths_in scale) cards)
           (no_repeat_within (table_within (strengths_in scale) strength_key (Good scale clocks phases) (λ line e g. strengths_keyed scale line e) cards good) keys));
-      strength_levels = subst (λ s. All (λ (x : StrengthRule). IsLevelAt s x.level) r.strengths) (sym are.scale_is)
+      strength_levels = subst (λ s. All (λ (x : StrengthRule). IsDeviceLevelAt s x.level) r.strengths) (sym are.scale_is)
           (subst (All (HasStrength scale)) (sym strengths_are) (table_all (strengths_in scale) (HasStrength scale) (Good scale clocks phases) (strengths_level scale clocks phases) cards good));
       clockports = subst (AllApart same_clockports) (sym t.clockports)
           (apart_by_key clockport_key same_clockports (λ x y e. cell_key (codes "clockport ") x.cell y.cell x.port y.port e) (table (clockports_in clocks) cards)
@@ -437,7 +429,7 @@ fits text r clean are =
       holds = subst (AllApart same_holds) (sym holds_are)
           (apart_by_key hold_key same_holds (λ x y e. cell_key (codes "hold ") x.cell y.cell x.net y.net e) (table (holds_in scale) cards)
           (no_repeat_within (table_within (holds_in scale) hold_key (Good scale clocks phases) (λ line e g. holds_keyed scale line e) cards good) keys));
-      sizes = subst (λ s. All (λ (h : HoldRule). IsSizeAt s h.size) r.holds) (sym are.scale_is)
+      sizes = subst (λ s. All (λ (h : HoldRule). IsHoldSizeAt s h.size) r.holds) (sym are.scale_is)
           (subst (All (HasSize scale)) (sym holds_are) (table_all (holds_in scale) (HasSize scale) (Good scale clocks phases) (holds_size scale clocks phases) cards good));
       keepers = subst (AllApart same_keepers) (sym t.keepers)
           (apart_by_key keeper_key same_keepers (λ x y e. cell_key (codes "keeper ") x.cell y.cell x.device y.device e) (table keepers_in cards)

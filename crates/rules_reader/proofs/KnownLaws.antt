@@ -2,6 +2,7 @@
 use Rattle.std.proofs.Common.{◌≡◌, ◌++◌, ◌∷◌, ◌||◌, not, [], ℕ, List, Bool, Option, Some, None, refl, ap, ap₂, ◌∙◌, append-nil}
 use Rattle.std.proofs.lemmas.Grind.{flat_map-append}
 use Rattle.std.proofs.Math.Bool.{or-false}
+use Rattle.vrt_model.specs.Levels.{usual_scale}
 use Rattle.vrt_model.specs.Lists.{distinct, is_empty}
 use Rattle.names.specs.Names.{with_names}
 use Rattle.names.proofs.NameLaws.{distinct_more, with_names-append}
@@ -55,6 +56,6 @@ known_more before card =
     (ap distinct (told_more phase_names_in before card) ∙ distinct_more (told phase_names_in before) (told_on phase_names_in card))
     (ap (with_names []) (told_more key_texts before card) ∙ with_names-append [] (told key_texts before) (told_on key_texts card))
     (ap (λ ns. not (is_empty ns)) (told_more phases_named before card) ∙ empty_more (told phases_named before) (told_on phases_named card))
-    (ap (scale_from 8) (told_more scales_in before card) ∙ scale_more 8 (told scales_in before) (told_on scales_in card))
+    (ap (scale_from usual_scale) (told_more scales_in before card) ∙ scale_more usual_scale (told scales_in before) (told_on scales_in card))
     (ap (λ ns. not (is_empty ns)) (told_more levels_on before card) ∙ empty_more (told levels_on before) (told_on levels_on card))
     ∙ card_learned (known_by before) card.line card.is_all_text card.entry

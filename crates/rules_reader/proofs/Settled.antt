@@ -3,6 +3,7 @@ use Rattle.std.proofs.Common.{◌≡◌, ◌++◌, ◌∷◌, ◌≤◌, ◌<◌
 use Rattle.std.specs.List.{list_any}
 use Rattle.std.proofs.lemmas.Bool.{leb-false, ltb-false, or_left, or_parts}
 use Rattle.std.proofs.lemmas.Grind.{flat_map-append}
+use Rattle.vrt_model.specs.Levels.{usual_scale}
 use Rattle.vrt_model.specs.Lists.{distinct, has_name, is_empty}
 use Rattle.names.specs.Names.{with_names}
 use Rattle.text_lines.proofs.FaultLaws.{CleanFrom}
@@ -63,7 +64,7 @@ no_later_phase before (card ∷ cards) clean named =
 
 scale_then : (before cards : List Card) → (known_by (before ++ cards)).scale ≡ scale_from (known_by before).scale (told scales_in cards)
 unfolding known_by scale_by
-scale_then before cards = ap (scale_from 8) (flat_map-append (told_on scales_in) before cards) ∙ scale_more 8 (told scales_in before) (told scales_in cards)
+scale_then before cards = ap (scale_from usual_scale) (flat_map-append (told_on scales_in) before cards) ∙ scale_more usual_scale (told scales_in before) (told scales_in cards)
 
 no_scale : (known : Known) (entry : Entry) → known.has_levels ≡ true → is_misplaced known entry ≡ false → scales_in entry ≡ []
 no_scale known (ScaleLine scale) levels placed = absurd (clash known.has_levels levels placed) where

@@ -1,6 +1,7 @@
 -- The rules that lines give, table by table.
 use Rattle.std.specs.Prelude.{◌≡◌, ℕ, List, [], ◌∷◌, Bool, false, if◌then◌else◌, map, flat_map, codes, bytes_eq, Option, Some, None, option_map, unwrap_or}
 use Rattle.std.specs.List.{position}
+use Rattle.vrt_model.specs.Levels.{usual_scale}
 use Rattle.vrt_model.specs.Lists.{distinct}
 use Rattle.rules_expression.specs.Grammar.{Formula, seen}
 use Rattle.rules_expression.specs.Grammar.Formula.{a_port}
@@ -59,9 +60,9 @@ abbrev pub scale_from : ℕ → List ℕ → ℕ
 scale_from scale [] = scale
 scale_from scale (s ∷ scales) = scale_from s scales
 
--- the scale of lines, 8 where no line says it
+-- the scale of lines, the usual one where no line says it
 unfoldable pub scale_by : List Card → ℕ
-scale_by cards = scale_from 8 (told scales_in cards)
+scale_by cards = scale_from usual_scale (told scales_in cards)
 
 abbrev pub clocks_in : Entry → List (List ℕ)
 clocks_in (ClockLine names) = names

@@ -13,7 +13,7 @@ pub struct Known {
     pub keys: Names,
     /// Whether a line so far names a phase, so that none may be declared any more.
     pub is_phase_named: bool,
-    /// The scale that levels and sizes have here, 8 where no line so far says one.
+    /// The scale that levels and sizes have here, the usual one where no line so far says one.
     pub scale: u8,
     /// Whether a line so far has a level or a size, so that no line may say the scale any more.
     pub has_levels: bool,

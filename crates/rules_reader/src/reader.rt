@@ -13,7 +13,7 @@ use crate::check::read_cards;
 use crate::known::Known;
 use names::Names;
 use std::alloc::Global;
-use vrt_model::{Rules, Seq};
+use vrt_model::{Rules, Seq, USUAL_SCALE};
 
 /// Reads a rules file. The text has at most 16,777,216 bytes. It takes time and memory in proportion to them, but for
 /// lines of a `keeper` or a `phase` with a long name, which is copied for each word behind it.
@@ -31,7 +31,7 @@ pub fn read_rules(alloc: Global, text: &[u8]) -> Result<Rules, RulesFault>
         phases: Names::new(alloc),
         keys: Names::new(alloc),
         is_phase_named: false,
-        scale: 8,
+        scale: USUAL_SCALE,
         has_levels: false,
     };
     let mut cards = Seq::new(alloc);

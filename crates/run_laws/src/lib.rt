@@ -1,5 +1,5 @@
-//! The law of runs: in a comparison that is equal each run stays related and shows the model's bits. Laws alone, each the
-//! contract of a function that does nothing.
+//! The law of runs: in a comparison that is equal each run stays related and shows the model's bits where they are not
+//! free. Laws alone, each the contract of a function that does nothing.
 #![tactic(auto)]
 
 ghost use Rattle.run_laws.specs.Supported.{IsSound};
@@ -10,7 +10,7 @@ ghost use Rattle.vrt_model.specs.Runs.{RunsMatch};
 
 /// The law of runs, from what is asked of a comparison: where each related memory with inputs that meet the `assume` lines is a
 /// valuation, and groups and holds are in range, each run of an equal comparison from a related memory stays related, and at
-/// each step each observed output has the model's bit.
+/// each step each observed output has the model's bit or is free.
 #[tactic(auto, using(crate::proofs::RunsFromEqual::runs))]
 pub fn runs()
     ensures { (k : Comparison) → IsSound k → IsEqual k → RunsMatch k }

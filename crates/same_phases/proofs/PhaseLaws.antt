@@ -3,10 +3,9 @@ use Rattle.std.proofs.Common.{◌≡◌, ℕ, ◌||◌, ◌&&◌, Bool, true, fa
 use Rattle.std.specs.Prelude.{◌↔◌, is_some, unwrap_or}
 use Rattle.std.specs.List.{list_any}
 use Rattle.std.proofs.lemmas.Bool.{eq-eqb, or_left}
-use Rattle.std.proofs.lemmas.Option.{none-some, same_Some}
 use Rattle.vrt_model.proofs.Decidable.{some_response}
 use Rattle.vrt_model.proofs.Filtered.{device_among}
-use Rattle.vrt_model.proofs.GatesGiven.{IsGiven, base_reading, plain_any, shown_by}
+use Rattle.vrt_model.proofs.GatesGiven.{IsGiven, base_reading, plain_any, shown_by, shown_is}
 use Rattle.vrt_model.proofs.Laws.{one_response}
 use Rattle.vrt_model.proofs.Members.{among_any}
 use Rattle.vrt_model.proofs.Networks.{network_finite}
@@ -18,7 +17,7 @@ use Rattle.vrt_model.specs.Levels.{source_level}
 use Rattle.vrt_model.specs.Lists.{Among, At}
 use Rattle.vrt_model.specs.Path.{Network}
 use Rattle.vrt_model.specs.Reading.{HasGivenBit, IsReading, Partial, bare, devices_of, is_given}
-use Rattle.vrt_model.specs.Response.{IsResponse, Fight, Float, Response, Shows}
+use Rattle.vrt_model.specs.Response.{IsResponse, Response, Shows}
 use Rattle.vrt_model.specs.Solution.{Agrees, IsSolution}
 use Rattle.vrt_model.specs.State.{IsState, Setting, State, network_of}
 use Rattle.vrt_model.specs.declared.circuit.Circuit.{Circuit}
@@ -58,11 +57,6 @@ module _ (c : Circuit) (phase : Phase) (inputs : ℕ → Bool) (inside : ℕ →
 
   mixed_reading : (other : ℕ → Bool) → IsReading c phase inputs other → IsReading c phase inputs (mixed inside a other)
   mixed_reading other is n net e = mixed_at other is n net e (inside n) (is_given net.kind) refl refl
-
-shown_is : (r : Response) (v : Bool) → shown_by r ≡ Some v → r ≡ Shows v
-shown_is Fight v e = absurd (none-some v e)
-shown_is Float v e = absurd (none-some v e)
-shown_is (Shows u) v e = ap Shows (same_Some u v e)
 
 -- ---- the solution of one phase, carried on to the nets of another
 

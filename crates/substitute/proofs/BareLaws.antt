@@ -5,9 +5,7 @@ use Rattle.std.proofs.lemmas.Option.{slice_get_within}
 use Rattle.channel_parts.specs.PartLists.{IsPartList}
 use Rattle.channel_parts.specs.declared.part.Parts.{Parts}
 use Rattle.vrt_model.proofs.Lists.{at_front, at_last, at_split, at_there, one_at}
-use Rattle.vrt_model.specs.Known.{HasArc}
 use Rattle.vrt_model.specs.Lists.{At}
-use Rattle.vrt_model.specs.Unsupported.{IsAcyclic}
 use Rattle.vrt_model.specs.declared.circuit.Circuit.{Circuit}
 use Rattle.vrt_model.specs.declared.rules.Phase.{Phase}
 use Rattle.whole_circuits.specs.Acyclic.{AreAcyclic}

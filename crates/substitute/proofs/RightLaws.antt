@@ -10,7 +10,7 @@ use Rattle.whole_circuits.specs.Acyclic.{AreAcyclic}
 use Rattle.whole_circuits.specs.Outputs.{AreOpen, own_outputs}
 use Rattle.whole_circuits.specs.Steps.{Passes}
 use Rattle.vrt_model.proofs.Lists.{one_at}
-use Rattle.vrt_model.specs.Checked.{IsCircuitWith, MayBeWhole, before, is_cell_allowed, with_one}
+use Rattle.vrt_model.specs.Checked.{IsCircuitWith, MayBeWhole, before, with_one}
 use Rattle.vrt_model.specs.CheckedParts.{checked_devices}
 use Rattle.vrt_model.specs.Cut.{Cut, NumberedPlace, is_inside_whole, numbered_places}
 use Rattle.vrt_model.specs.Inputs.{AreRules}

@@ -32,6 +32,7 @@ use Rattle.vrt_model.specs.Checked.{with_one}
 use Rattle.vrt_model.specs.CheckedParts.{checked_devices}
 use Rattle.vrt_model.specs.Comparison.{Comparison}
 use Rattle.vrt_model.specs.Cut.{Cut, NumberedPlace, is_inside, is_inside_whole, is_whole, numbered_places}
+use Rattle.vrt_model.specs.Levels.{level_counts}
 use Rattle.vrt_model.specs.Lists.{Among, At, mark_at}
 use Rattle.vrt_model.specs.Unrolled.{Place as FlatPlace, Top, all_places}
 use Rattle.vrt_model.specs.Unsupported.{comparison_of}
@@ -454,7 +455,7 @@ module _ (asked : Bool) (t : Top) (blif : Blif) (facts : List CellFacts) (tables
   none_whole n (suc j) = none_marked n (suc j)
 
   pub none_chosen : (whole inside held : List Bool) (taken : List Taken) (counts : List ℕ) → whole ≡ nowhere (length tables.unrolled.now.places) → inside ≡ nowhere 1 → AreHeldMarks tables.flat.now held
-      → taken ≡ replicate (length tables.flat.now.nets) Free → length counts ≡ 16 * length tables.flat.now.nets → AreCounts (length tables.flat.now.nets) tables.flat.now.devices counts
+      → taken ≡ replicate (length tables.flat.now.nets) Free → length counts ≡ level_counts * length tables.flat.now.nets → AreCounts (length tables.flat.now.nets) tables.flat.now.devices counts
       → AreChosenBy asked t blif facts tables 0 1 whole inside held taken counts
   none_chosen whole inside held taken counts whole_is inside_is held_are taken_is each counts_are =
       let n = length tables.unrolled.now.places in

@@ -1,5 +1,5 @@
 -- An instance that is tried next, with what stands in the tables.
-use Rattle.std.specs.Prelude.{◌≡◌, ℕ, suc, Bool, true, false, List, length}
+use Rattle.std.specs.Prelude.{◌≡◌, ℕ, suc, Bool, false, List, length}
 use Rattle.checked_chain.specs.Arcs.{AreWholeOutputsApart}
 use Rattle.formed_cells.specs.Formed.{AreRead}
 use Rattle.known_nets.specs.Incidence.{AreHeldMarks}

@@ -6,6 +6,7 @@ use Rattle.vrt_model.specs.Checked.{with_one}
 use Rattle.vrt_model.specs.Comparison.{cell_at}
 use Rattle.vrt_model.specs.Cut.{Cut, NumberedPlace, is_left_out, numbered_places}
 use Rattle.vrt_model.specs.FlatCircuit.{flat_device}
+use Rattle.vrt_model.specs.Levels.{level_counts}
 use Rattle.vrt_model.specs.Lists.{Among}
 use Rattle.vrt_model.specs.Unrolled.{Top}
 use Rattle.vrt_model.specs.declared.circuit.Device.{Device}
@@ -27,8 +28,8 @@ pub record IsEnd (t : Top) (i e : ℕ) : Type 0 where
 -- the counts with those of some devices again, unless these stay out
 abbrev pub AreSettled : Bool → List Device → List ℕ → List ℕ → Type 0
 AreSettled out devices old new =
-    (n k : ℕ) → k < 16 → 16 * n + k < length old
-    → slice_index new (16 * n + k) ≡ cond out (slice_index old (16 * n + k)) (changed true (slice_index old (16 * n + k)) (length (channels_of k devices n)))
+    (n k : ℕ) → k < level_counts → level_counts * n + k < length old
+    → slice_index new (level_counts * n + k) ≡ cond out (slice_index old (level_counts * n + k)) (changed true (slice_index old (level_counts * n + k)) (length (channels_of k devices n)))
 
 -- an instance is whole too, where it is chosen
 abbrev pub with_chosen : Bool → Cut → ℕ → Cut

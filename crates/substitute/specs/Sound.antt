@@ -1,5 +1,5 @@
 -- An instance that is tried besides those that are decided.
-use Rattle.std.specs.Prelude.{◌≡◌, ℕ, suc, Bool, true, false, List, ◌++◌}
+use Rattle.std.specs.Prelude.{◌≡◌, ℕ, suc, Bool, false, List, ◌++◌}
 use Rattle.replaced_instances.specs.Steps.{AreAllowed}
 use Rattle.whole_cells.specs.Entries.{IsAllowed}
 use Rattle.whole_circuits.specs.Outputs.{AreOpen, own_outputs}

@@ -13,6 +13,7 @@ use Rattle.vrt_model.specs.Comparison.{Comparison}
 use Rattle.vrt_model.specs.CheckedParts.{checked_devices}
 use Rattle.vrt_model.specs.Cut.{Cut, is_inside_whole}
 use Rattle.vrt_model.specs.FlatCircuit.{flat_circuit_of}
+use Rattle.vrt_model.specs.Levels.{level_counts}
 use Rattle.vrt_model.specs.Lists.{At, mark_at}
 use Rattle.vrt_model.specs.Unrolled.{Place as FlatPlace, Top, all_places}
 use Rattle.vrt_model.specs.WholeInstances.{all_outputs, driven_pins}
@@ -36,7 +37,7 @@ pub record AreTables (t : Top) (blif : Blif) (facts : List CellFacts) (tables : 
 
 -- so many nets have counts of the channels that are not inside the whole instances of a cut
 pub record AreCountsOf (cut : Cut) (count : ℕ) (counts : List ℕ) : Type 0 where
-  pub each : length counts ≡ 16 * count
+  pub each : length counts ≡ level_counts * count
   pub are : AreCounts count (checked_devices cut) counts
 
 -- the instances before a number are rightly chosen or not, and none is chosen from there on; the marks are at their places, at those inside them

@@ -9,6 +9,7 @@ ghost use Rattle.whole_circuits.specs.Counts.{AreCounts};
 ghost use Rattle.whole_circuits.specs.declared.taken.Taken.TheVariants.{Free as FreeNet};
 ghost use Rattle.whole_circuits.specs.declared.whole_cell.WholeCell.{WholeCell as CellValue};
 ghost use Rattle.vrt_model.specs.Circuits.{IsHold};
+ghost use Rattle.vrt_model.specs.Levels.{level_counts};
 ghost use Rattle.vrt_model.specs.Lists.{At, mark_at};
 ghost use Rattle.vrt_model.specs.Unrolled.{Top};
 ghost use Rattle.vrt_model.specs.declared.blif.Blif.{Blif as BlifValue};
@@ -59,7 +60,7 @@ fn bare_nets(alloc: Global, tables: Tables<'_>) -> Result<NetMarks, NoMemory>
     requires { IsWired tables.flat.now }
     ensures held { IfOk result (λ nets. AreHeldMarks tables.entry.flat.now nets.held.items) }
     ensures taken { IfOk result (λ nets. nets.taken.items ≡ replicate (length tables.entry.flat.now.nets) FreeNet) }
-    ensures each { IfOk result (λ nets. length nets.channels.items ≡ 16 * length tables.entry.flat.now.nets) }
+    ensures each { IfOk result (λ nets. length nets.channels.items ≡ level_counts * length tables.entry.flat.now.nets) }
     ensures counts { IfOk result (λ nets. AreCounts (length tables.entry.flat.now.nets) tables.entry.flat.now.devices nets.channels.items) }
 {
     let count = tables.flat.nets.len();

@@ -4,7 +4,6 @@ ghost use Rattle.std.specs.Prelude.{◌≡◌, ◌<◌, Bool, false, List, All, 
 ghost use Rattle.std.specs.List.{list_any};
 ghost use Rattle.known_nets.specs.Wired.{IsWired};
 ghost use Rattle.net_places.specs.Instances.{AreSmall};
-ghost use Rattle.net_places.specs.Links.{IsUnrolled};
 ghost use Rattle.net_places.specs.Whole.{whole_of};
 ghost use Rattle.prepared_tables.specs.Prepared.{ArePrepared};
 ghost use Rattle.vrt_model.specs.Checked.{IsCircuitWith};

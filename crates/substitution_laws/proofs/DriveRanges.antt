@@ -8,7 +8,7 @@ use Rattle.replaced_instances.proofs.StepHides.{output_observed}
 use Rattle.replaced_instances.proofs.StepPorts.{no_holds, output_drive, output_plain, place_there, port_of_output, told}
 use Rattle.replaced_instances.specs.Steps.{IsStep, compared_at}
 use Rattle.vrt_model.proofs.Filtered.{filter_among}
-use Rattle.vrt_model.proofs.Scales.{same_source}
+use Rattle.vrt_model.proofs.Scales.{same_device_level}
 use Rattle.vrt_model.specs.Circuits.{IsDrive}
 use Rattle.vrt_model.specs.Comparison.{CellPort, Comparison, output_signal, ports_of}
 use Rattle.vrt_model.specs.Cut.{Cut, NumberedPlace}
@@ -65,4 +65,4 @@ module _ (cut : Cut) (blif : Blif) (facts : List CellFacts) (i : ℕ) (p : Numbe
 
       by_drive : (d : Drive) → drive_in facts p.at.cell j ≡ d → IsDrive c d
       by_drive Soft is = tt
-      by_drive (Level level) is = (same_source q.circuit c level (source_there ∙ sym source)).1 (told_level j port.0 level port.1 is)
+      by_drive (Level level) is = same_device_level q.circuit c (source_there ∙ sym source) level (told_level j port.0 level port.1 is)

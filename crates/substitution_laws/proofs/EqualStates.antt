@@ -15,7 +15,7 @@ use Rattle.known_nets.specs.Wired.{IsWired}
 use Rattle.replaced_cells.proofs.States.{with_given, with_given_agrees, with_given_reads}
 use Rattle.vrt_model.proofs.Filtered.{device_among}
 use Rattle.vrt_model.proofs.Members.{all_among, at_none}
-use Rattle.vrt_model.proofs.Scales.{least_below}
+use Rattle.vrt_model.proofs.Scales.{least_above, least_below}
 use Rattle.vrt_model.specs.Circuits.{IsDevice}
 use Rattle.vrt_model.specs.Comparison.{Comparison, is_observed, phase_at}
 use Rattle.vrt_model.specs.Equal.{Agree, IsPhaseEqual}
@@ -31,13 +31,11 @@ use Rattle.vrt_model.specs.Reading.{Partial, devices_of}
 use Rattle.vrt_model.specs.Response.{IsResponse, IsStrength, Reaches, Shows}
 use Rattle.vrt_model.specs.Solution.{Agrees}
 use Rattle.vrt_model.specs.State.{IsState, OutputPin, Setting, State, network_of, output_pins}
-use Rattle.vrt_model.specs.declared.circuit.Circuit.{Circuit}
 use Rattle.vrt_model.specs.declared.circuit.Device.{Device}
 use Rattle.vrt_model.specs.declared.circuit.Hold.{Hold}
 use Rattle.vrt_model.specs.declared.rules.Phase.{Phase}
 use Rattle.vrt_model.specs.declared.whole.Whole.{Whole}
 use Rattle.whole_solutions.proofs.KnownInsideLaws.{unknown_outputs_are_unsettled}
-use Rattle.whole_solutions.proofs.LeastLevels.{least_above}
 use Rattle.whole_solutions.proofs.ObservedCases.{gate_observed}
 use Rattle.whole_solutions.specs.KnownInside.{AreExposedUnsettled}
 

@@ -1,5 +1,5 @@
 -- Numbers, levels and sizes of the circuits of a chain are in range.
-use Rattle.std.proofs.Common.{◌≡◌, ℕ, zero, suc, ◌<◌, Bool, true, false, not, cond, List, [], ◌∷◌, map, length, Option, Some, None, refl, ap, sym, ◌∙◌, subst, ◌≤◌, ◌==◌}
+use Rattle.std.proofs.Common.{◌≡◌, ℕ, zero, suc, ◌<◌, Bool, true, false, not, cond, List, [], ◌∷◌, map, length, Option, Some, None, refl, ap, sym, ◌∙◌, subst}
 use Rattle.std.specs.Prelude.{All, drop, option_map}
 use Rattle.std.proofs.lemmas.Bool.{false≢true}
 use Rattle.std.proofs.lemmas.Option.{none-some, same_Some, slice_get_within}
@@ -23,7 +23,7 @@ use Rattle.substitution_laws.specs.Wholes.{CircuitsHaveRanges, CutsHaveRanges, I
 use Rattle.vrt_model.proofs.Filtered.{filter_among}
 use Rattle.vrt_model.proofs.Lists.{among_filter_map, at_there, filter_map_among, map_among}
 use Rattle.vrt_model.proofs.Members.{all_among, all_by, among_flat_map, among_later, among_map, flat_map_among}
-use Rattle.vrt_model.proofs.Scales.{same_source}
+use Rattle.vrt_model.proofs.Scales.{same_device_level, same_hold_size}
 use Rattle.vrt_model.specs.Assignment.{Tied}
 use Rattle.vrt_model.specs.Checked.{IsCircuitWith, before, with_one}
 use Rattle.vrt_model.specs.CheckedParts.{checked_devices, moved_end}
@@ -33,7 +33,6 @@ use Rattle.vrt_model.specs.Cut.{Cut, NumberedPlace, is_left_out, is_whole, moved
 use Rattle.vrt_model.specs.FlatCircuit.{flat_circuit_of, flat_device, flat_devices, flat_holds, flat_instance, flat_instances, net_id}
 use Rattle.vrt_model.specs.FlatModels.{IsFlatModel}
 use Rattle.vrt_model.specs.Known.{IsPlain}
-use Rattle.vrt_model.specs.Levels.{IsHoldSize}
 use Rattle.vrt_model.specs.Lists.{Among, At}
 use Rattle.vrt_model.specs.Unrolled.{Place, Top, all_places}
 use Rattle.vrt_model.specs.PairedPorts.{Model, paired_model}
@@ -61,7 +60,7 @@ use Rattle.whole_ranks.proofs.PlaceLaws.{input_pin_of, made, made_is, output_pin
 settled_in_range : (b : Bool) (c flat : Circuit) (d : Drive) → flat.source ≡ c.source → IsDrive flat d → IsDrive c (cond b Soft d)
 settled_in_range true c flat d same is = tt
 settled_in_range false c flat Soft same is = tt
-settled_in_range false c flat (Level level) same is = (same_source flat c level same).1 is
+settled_in_range false c flat (Level level) same is = same_device_level flat c same level is
 
 -- a device that is shown is one of the flat circuit
 pub device_flat : (cut : Cut) (d : Device) → Among (checked_devices cut) d → Among (flat_devices cut.top) d
@@ -86,7 +85,7 @@ module _ (cut : Cut) (blif : Blif) (facts : List CellFacts) (c : Circuit) (h : I
   unfolding flat_circuit_of
   device_in_range d on =
       let is = all_among (IsDevice (flat_circuit_of t)) (flat_devices t) d h.flat.devices (device_flat cut d (subst (λ (ds : List Device). Among ds d) circuit.devices on)) in
-      record { gate = in_range d.gate is.gate; left = in_range d.left is.left; right = in_range d.right is.right; level = (same_source (flat_circuit_of t) c d.level same_level).1 is.level }
+      record { gate = in_range d.gate is.gate; left = in_range d.left is.left; right = in_range d.right is.right; level = same_device_level (flat_circuit_of t) c same_level d.level is.level }
 
   end_in_range : (e : HoldEnd) → IsEnd (flat_circuit_of t) e → IsEndShown cut e → IsEnd c (moved_end cut e)
   unfolding flat_circuit_of
@@ -97,16 +96,13 @@ module _ (cut : Cut) (blif : Blif) (facts : List CellFacts) (c : Circuit) (h : I
       let here : At c.instances (moved_instance cut i) x.0 = subst (λ (xs : List FlatInstance). At xs (moved_instance cut i) x.0) (sym circuit.instances) (instances_move cut i there ∙ x.1) in
       slice_get_within c.instances (moved_instance cut i) x.0 here
 
-  size_in_range : (size : ℕ) → IsHoldSize (flat_circuit_of t) size → IsHoldSize c size
-  size_in_range size is = subst (λ (source : ℕ). (1 ≤ size) × (size < cond (source == 15) 6 4)) same_level is
-
   hold_in_range : (g : Hold) → Among c.holds g → IsHold c g
   unfolding flat_circuit_of
   hold_in_range g on =
       let moved : Hold → Hold = λ (x : Hold). record x { end = moved_end cut x.end } in
       let from = among_map moved (flat_holds t) g (subst (λ (gs : List Hold). Among gs g) circuit.holds on) in
       let is = all_among (IsHold (flat_circuit_of t)) (flat_holds t) from.0 h.flat.holds from.1 in
-      subst (IsHold c) from.2 (record { net = in_range from.0.net is.net; size = size_in_range from.0.size is.size; end = end_in_range from.0.end is.end (h.ends from.0 from.1) })
+      subst (IsHold c) from.2 (record { net = in_range from.0.net is.net; size = same_hold_size (flat_circuit_of t) c same_level from.0.size is.size; end = end_in_range from.0.end is.end (h.ends from.0 from.1) })
 
   -- the nets of ports are in range
   port_in_range : (r : Place) (j : ℕ) (port : ℕ) → At (all_places t) j r → Among (drop 1 (all_places t)) r → Among r.ports port → IsNet c (net_id port)

@@ -18,7 +18,7 @@ use Rattle.vrt_model.specs.Circuits.{IsHold}
 use Rattle.vrt_model.specs.Constraints.{given_bit, given_by_kind}
 use Rattle.vrt_model.specs.Lists.{At, Among}
 use Rattle.vrt_model.specs.Path.{Hop, IsPath, IsRoot, Root, end_of}
-use Rattle.vrt_model.specs.Reading.{HasGivenBit, IsReading, conducts_at, is_given, is_in}
+use Rattle.vrt_model.specs.Reading.{HasGivenBit, IsReading, conducts_at, is_given, is_given_at, is_in}
 use Rattle.vrt_model.specs.Response.{Fight, Float, IsClear, IsResponse, IsStrength, Reaches, Response, Shows}
 use Rattle.vrt_model.specs.Solution.{Agrees, AlwaysResponds, IsSolution, SameObserved}
 use Rattle.vrt_model.specs.State.{IsState, OutputPin, Setting, State, network_of, output_pins}
@@ -74,20 +74,16 @@ shown_by Fight = None
 shown_by Float = None
 shown_by (Shows v) = Some v
 
-shown_is : (r : Response) (v : Bool) → shown_by r ≡ Some v → r ≡ Shows v
+pub shown_is : (r : Response) (v : Bool) → shown_by r ≡ Some v → r ≡ Shows v
 shown_is Fight v e = absurd (none-some v e)
 shown_is Float v e = absurd (none-some v e)
 shown_is (Shows u) v e = ap Shows (same_Some u v e)
 
-is_given_at : Circuit → ℕ → Bool
-is_given_at c n = unwrap_or (option_map (λ (net : FlatNet). is_given net.kind) (slice_get c.nets n)) false
-
-given_at_is : (c : Circuit) (n : ℕ) (net : FlatNet) → At c.nets n net → is_given_at c n ≡ is_given net.kind
-unfolding is_given_at
+pub given_at_is : (c : Circuit) (n : ℕ) (net : FlatNet) → At c.nets n net → is_given_at c n ≡ is_given net.kind
 given_at_is c n net e = ap (λ (o : Option FlatNet). unwrap_or (option_map (λ (x : FlatNet). is_given x.kind) o) false) e
 
-given_at_gives : (c : Circuit) (n : ℕ) → is_given_at c n ≡ true → IsGiven c n
-unfolding is_given_at
+-- a net that passes the test has a given value
+pub given_at_gives : (c : Circuit) (n : ℕ) → is_given_at c n ≡ true → IsGiven c n
 given_at_gives c n t = found (slice_get c.nets n) refl t
   where
     found : (o : Option FlatNet) → slice_get c.nets n ≡ o → unwrap_or (option_map (λ (x : FlatNet). is_given x.kind) o) false ≡ true → IsGiven c n

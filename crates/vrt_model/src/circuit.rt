@@ -1,18 +1,19 @@
 //! A flat circuit.
 
 ghost use Rattle.std.specs.Prelude.{◌≡◌};
-ghost use Rattle.vrt_model.specs.Levels.{source_level};
+ghost use Rattle.vrt_model.specs.Levels.{least_level, source_level};
 
+use crate::levels::{MOST_SOURCE, least_by, source_by};
 use crate::{ClockRef, Kind, Net, Seq, Text, Whole};
 
 /// What gives a net its value.
 #[derive(Clone, Copy, Debug, PartialEq, Eq)]
 pub enum NetKind {
-    /// A supply of this value, 1 for true: a root of level 8 in every phase.
+    /// A supply of this value, 1 for true: a root of the source level in every phase.
     Supply(bool),
-    /// The net of a port with a `clockport` rule: a root of level 8 with the bit of what it carries in the phase.
+    /// The net of a port with a `clockport` rule: a root of the source level with the bit of what it carries in the phase.
     Clock(ClockRef),
-    /// The net of an input port: a root of level 8, whose bit is a variable in each phase.
+    /// The net of an input port: a root of the source level, whose bit is a variable in each phase.
     Input,
     /// Every other net, those of outputs among them: its value comes by paths.
     Plain,
@@ -48,7 +49,8 @@ pub struct Device {
     pub left: Net,
     /// The net of the source.
     pub right: Net,
-    /// Behind it a signal has at most this level, 4 to 7 (Bryant 1984): by `strength`, else by `device`, else 6.
+    /// Behind it a signal has at most this level, one of devices (Bryant 1984): by `strength`, else by `device`, else the
+    /// usual one.
     pub level: u8,
     /// Whether a `keeper` line names it: the bare circuit, which is solved first, leaves it out.
     pub keeper: bool,
@@ -96,7 +98,8 @@ pub enum HoldEnd {
 pub struct Hold {
     /// The net that keeps its charge. No other hold has it.
     pub net: Net,
-    /// The level of its charge, 1 to 3 (the size of a node, Bryant 1984): where charges meet, the greatest counts.
+    /// The level of its charge, below those of devices (the size of a node, Bryant 1984): where charges meet, the greatest
+    /// counts.
     pub size: u8,
     /// For what the hold stands. Holds with the same end share one bit.
     pub end: HoldEnd,
@@ -152,7 +155,7 @@ pub struct Circuit {
     pub instances: Seq<FlatInstance>,
     /// The instances left whole, whose models drive their outputs.
     pub wholes: Seq<Whole>,
-    /// The level of supplies, inputs and clock ports: 8, or 15 at scale 16.
+    /// The level of supplies, inputs and clock ports, that of one of the two scales.
     pub source: u8,
 }
 
@@ -175,6 +178,13 @@ impl Circuit {
     pub fn source_level(&self) -> u8
         ensures { result ≡ source_level self.now }
     {
-        if self.source == 15 { 15 } else { 8 }
+        source_by(self.source == MOST_SOURCE)
+    }
+
+    /// The least level of a device.
+    pub fn least_level(&self) -> u8
+        ensures { result ≡ least_level self.now }
+    {
+        least_by(self.source == MOST_SOURCE)
     }
 }

@@ -3,6 +3,7 @@
 ghost use Rattle.std.specs.Prelude.{◌≡◌};
 ghost use Rattle.vrt_model.specs.Levels.{source_of, usual_level};
 
+use crate::levels::{FINE_SCALE, source_by, usual_at};
 use crate::{Kind, Seq, Text};
 
 /// A clock, and whether it is carried inverted.
@@ -79,7 +80,7 @@ pub struct DeviceRule {
     pub model: Text,
     /// Of which kind the transistors of the model are, whatever its `.model` card says.
     pub kind: Kind,
-    /// The level of the transistors of the model, 4 to 7, and 6 where the line has none.
+    /// The level of the transistors of the model, one of devices, and the usual one where the line has none.
     pub level: u8,
 }
 
@@ -103,7 +104,7 @@ pub struct StrengthRule {
     pub cell: Text,
     /// The name of the transistor in the cell, in lower case.
     pub device: Text,
-    /// The level of that transistor, 4 to 7, which goes before that of its model.
+    /// The level of that transistor, one of devices, which goes before that of its model.
     pub level: u8,
 }
 
@@ -205,7 +206,7 @@ pub struct HoldRule {
     pub cell: Text,
     /// The name of the net that keeps its charge, in lower case.
     pub net: Text,
-    /// The size of the charge, 1 to 3, and 1 where the line has none.
+    /// The size of the charge, below the levels of devices, and 1 where the line has none.
     pub size: u8,
 }
 
@@ -408,7 +409,7 @@ pub struct Rules {
     pub observes: Seq<ObserveRule>,
     /// What holds of the inputs of cells.
     pub assumes: Seq<AssumeRule>,
-    /// The scale of levels: 8, or 16.
+    /// The scale of levels: the usual one, or the fine one.
     pub scale: u8,
 }
 
@@ -442,13 +443,13 @@ impl Rules {
     pub fn source_level(&self) -> u8
         ensures { result ≡ source_of self.now }
     {
-        if self.scale == 16 { 15 } else { 8 }
+        source_by(self.scale == FINE_SCALE)
     }
 
     /// The level of a device for which no rule has one.
     pub fn usual_level(&self) -> u8
         ensures { result ≡ usual_level self.now }
     {
-        if self.scale == 16 { 10 } else { 6 }
+        usual_at(self.scale)
     }
 }

@@ -5,9 +5,9 @@ use crate::{ClockedSignal, FlatModel, Net, Seq, Text};
 /// How strongly an output drives: at a level, or nothing is said.
 #[derive(Clone, Copy, Debug, PartialEq, Eq)]
 pub enum Drive {
-    /// Nothing is said. A whole output that meets gates alone is soft, and its root has level 8.
+    /// Nothing is said. A whole output that meets gates alone is soft, and its root has the source level.
     Soft,
-    /// In its cell the net has this strength, 4 to 7, at every valuation.
+    /// In its cell the net has this strength, a level of devices, at every valuation.
     Level(u8),
 }
 

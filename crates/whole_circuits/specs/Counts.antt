@@ -1,7 +1,7 @@
 -- How many channels end at nets, by the levels of their devices, and which drives bear them.
 use Rattle.std.specs.Prelude.{◌≡◌, ℕ, zero, suc, ◌+◌, ◌-◌, ◌*◌, ◌<◌, ◌==◌, Bool, true, false, ◌&&◌, ◌||◌, List, filter, length, nat_le}
 use Rattle.std.specs.List.{slice_index}
-use Rattle.vrt_model.specs.Levels.{IsDeviceLevel}
+use Rattle.vrt_model.specs.Levels.{IsDeviceLevel, level_counts}
 use Rattle.vrt_model.specs.Lists.{Among}
 use Rattle.vrt_model.specs.declared.circuit.Circuit.{Circuit}
 use Rattle.vrt_model.specs.declared.circuit.Device.{Device}
@@ -16,9 +16,9 @@ is_of level n d = ((d.left.0 == n) || (d.right.0 == n)) && (d.level == level)
 abbrev pub channels_of : ℕ → List Device → ℕ → List Device
 channels_of level devices n = filter (is_of level n) devices
 
--- of so many nets each has sixteen counts: of the channels there of the devices of each level below 16
+-- of so many nets each has a count for each level: of the channels there of the devices of this level
 abbrev pub AreCounts : ℕ → List Device → List ℕ → Type 0
-AreCounts count devices counts = (n k : ℕ) → n < count → k < 16 → slice_index counts (16 * n + k) ≡ length (channels_of k devices n)
+AreCounts count devices counts = (n k : ℕ) → n < count → k < level_counts → slice_index counts (level_counts * n + k) ≡ length (channels_of k devices n)
 
 -- a count with so many more, or with so many fewer
 abbrev pub changed : Bool → ℕ → ℕ → ℕ
@@ -28,7 +28,7 @@ changed false count k = count - k
 -- each count of a net is changed by so many
 abbrev pub AreChanged : Bool → (ℕ → ℕ → ℕ) → List ℕ → List ℕ → Type 0
 AreChanged more many old new =
-    (n k : ℕ) → k < 16 → 16 * n + k < length old → slice_index new (16 * n + k) ≡ changed more (slice_index old (16 * n + k)) (many n k)
+    (n k : ℕ) → k < level_counts → level_counts * n + k < length old → slice_index new (level_counts * n + k) ≡ changed more (slice_index old (level_counts * n + k)) (many n k)
 
 -- devices have levels of devices
 abbrev pub HaveLevels : Circuit → List Device → Type 0
@@ -43,7 +43,7 @@ bears (Level most) level = nat_le level most
 
 -- by the count of a level at a net
 abbrev pub bears_at : List ℕ → Drive → ℕ → ℕ → Bool
-bears_at counts drive n level = (slice_index counts (16 * n + level) == 0) || bears drive level
+bears_at counts drive n level = (slice_index counts (level_counts * n + level) == 0) || bears drive level
 
 -- by the counts of all levels below one
 abbrev pub bears_below : List ℕ → Drive → ℕ → ℕ → Bool
@@ -52,4 +52,4 @@ bears_below counts drive n (suc level) = bears_below counts drive n level && bea
 
 -- by all counts of a net
 abbrev pub bears_all : List ℕ → Drive → ℕ → Bool
-bears_all counts drive n = bears_below counts drive n 16
+bears_all counts drive n = bears_below counts drive n level_counts

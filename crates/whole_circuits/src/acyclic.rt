@@ -1,6 +1,6 @@
 //! Whether the arcs of a circuit lead around.
 
-ghost use Rattle.std.specs.Prelude.{◌≡◌, ◌<◌, ◌↔◌, ℕ, IfOk, length, true};
+ghost use Rattle.std.specs.Prelude.{◌≡◌, ◌<◌, ◌↔◌, IfOk, true};
 ghost use Rattle.known_nets.specs.Wired.{IsWired};
 ghost use Rattle.whole_circuits.specs.Acyclic.{AreAcyclic};
 ghost use Rattle.vrt_model.specs.Known.{HasArc};

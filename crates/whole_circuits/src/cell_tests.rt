@@ -1,6 +1,6 @@
 //! What is asked of a cell whose instances may be left whole.
 
-ghost use Rattle.std.specs.Prelude.{◌≡◌, ◌||◌, ◌==◌, ◌<◌, ℕ, map, not, true};
+ghost use Rattle.std.specs.Prelude.{◌≡◌, ◌||◌, ◌==◌, map, true};
 ghost use Rattle.std.specs.List.{list_all};
 ghost use Rattle.net_places.specs.Links.{IsUnrolled};
 ghost use Rattle.phase_ports.specs.Ports.{unnamed};

@@ -1,12 +1,13 @@
-//! How many channels end at each net: sixteen counts for each net, one for each level below 16, which are all levels of devices at both scales.
+//! How many channels end at each net: so many counts for each net as there are levels, which are those of devices at both scales.
 
 ghost use Rattle.std.specs.Prelude.{◌≡◌, ◌<◌, ◌&&◌, ◌||◌, ◌==◌, ◌+◌, ◌*◌, ℕ, IfOk, OnOk, cond, length, replicate};
 ghost use Rattle.std.specs.List.{slice_index};
+ghost use Rattle.vrt_model.specs.Levels.{level_counts};
 ghost use Rattle.whole_circuits.specs.Counts.{AreChanged, AreCounts, bears, bears_all, bears_at, changed, channels_of, is_of};
 
 use crate::owners::one_more;
 use std::alloc::Global;
-use vrt_model::{Device, Drive, NoMemory};
+use vrt_model::{Device, Drive, LEVEL_COUNTS, NoMemory};
 
 /// So many counts of nothing.
 pub(crate) fn no_counts(alloc: Global, count: usize) -> Result<Vec<usize>, NoMemory>
@@ -53,10 +54,11 @@ fn count_end(counts: &mut Vec<usize>, more: bool, net: u32, level: u8) -> Result
     ensures len { OnOk result (length counts.new.items ≡ length counts.old.items) }
     ensures is { OnOk result (AreChanged more (λ n k. cond (net == n && level == k) 1 0) counts.old.items counts.new.items) }
 {
-    if level >= 16 {
+    if level >= LEVEL_COUNTS {
         return Ok(());
     }
-    count_place(counts, more, 16 * net as usize + level as usize)
+    let at = LEVEL_COUNTS as usize * net as usize + level as usize;
+    count_place(counts, more, at)
 }
 
 /// Counts the channel of a device in, or out, at the nets at which it ends.
@@ -88,11 +90,11 @@ pub fn count_channels(
     Ok(())
 }
 
-/// Sixteen counts for each net.
-fn sixteen_times(count: usize) -> Result<usize, NoMemory>
-    ensures { IfOk result (λ size. size ≡ 16 * count) }
+/// How many counts so many nets have.
+fn counts_of(count: usize) -> Result<usize, NoMemory>
+    ensures { IfOk result (λ size. size ≡ level_counts * count) }
 {
-    match count.checked_mul(16) {
+    match count.checked_mul(LEVEL_COUNTS as usize) {
         Some(size) => Ok(size),
         None => Err(NoMemory),
     }
@@ -104,10 +106,10 @@ pub fn channel_counts(
     count: usize,
     devices: &[Device],
 ) -> Result<Vec<usize>, NoMemory>
-    ensures len { IfOk result (λ counts. length counts.items ≡ 16 * count) }
+    ensures len { IfOk result (λ counts. length counts.items ≡ level_counts * count) }
     ensures are { IfOk result (λ counts. AreCounts count devices.now counts.items) }
 {
-    let size = sixteen_times(count)?;
+    let size = counts_of(count)?;
     let mut counts = no_counts(alloc, size)?;
     count_channels(&mut counts, true, devices)?;
     Ok(counts)
@@ -127,7 +129,8 @@ fn bears(drive: Drive, level: u8) -> bool
 fn bears_at(counts: &[usize], drive: Drive, net: u32, level: u8) -> bool
     ensures { result ≡ bears_at counts.now drive net level }
 {
-    let none = count_at(counts, 16 * net as usize + level as usize) == 0;
+    let at = LEVEL_COUNTS as usize * net as usize + level as usize;
+    let none = count_at(counts, at) == 0;
     let borne = bears(drive, level);
     none || borne
 }
@@ -137,7 +140,7 @@ pub(crate) fn bears_all(counts: &[usize], drive: Drive, net: u32) -> bool
     ensures { result ≡ bears_all counts.now drive net }
 {
     let mut all = true;
-    for level in 0..16u8 {
+    for level in 0..LEVEL_COUNTS {
         let here = bears_at(counts, drive, net, level);
         all = both(all, here);
     }

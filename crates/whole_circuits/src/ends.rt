@@ -22,7 +22,7 @@ use vrt_model::{Device, Drive, NoMemory, Seq, WholePin};
 
 /// What ends at each net of a circuit with whole instances.
 pub(crate) struct NetEnds {
-    /// For each net sixteen counts of the channels there, by the levels of their devices.
+    /// For each net a count for each level: of the channels there of devices of this level.
     pub channels: Vec<usize>,
     /// For each net the number of outputs of whole instances there.
     pub outputs: Vec<usize>,

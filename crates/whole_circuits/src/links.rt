@@ -1,8 +1,8 @@
 //! The links of an instance that is left whole, from those of the ports of its cell.
 
-ghost use Rattle.std.specs.Prelude.{◌≡◌, ◌++◌, [], List, ℕ, IfOk, OnOk, filter_map, flat_map, slice_get};
+ghost use Rattle.std.specs.Prelude.{◌≡◌, ◌++◌, [], IfOk, OnOk, filter_map, flat_map};
 ghost use Rattle.std.specs.List.{cons_option, enumerate_from};
-ghost use Rattle.whole_circuits.specs.Links.{ArePhaseLinks, link_to, links_by, links_over, over_of, signal_at};
+ghost use Rattle.whole_circuits.specs.Links.{ArePhaseLinks, link_to, links_over, over_of, signal_at};
 ghost use Rattle.whole_circuits.specs.Pins.{IsAtPorts};
 ghost use Rattle.vrt_model.specs.Comparison.{Comparison};
 ghost use Rattle.vrt_model.specs.Unrolled.{Place as FlatPlace};

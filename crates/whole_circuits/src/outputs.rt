@@ -1,6 +1,6 @@
 //! Whether the outputs of an instance are allowed where it would be whole.
 
-ghost use Rattle.std.specs.Prelude.{◌≡◌, ◌&&◌, ◌++◌, ◌↔◌, ℕ, List, true};
+ghost use Rattle.std.specs.Prelude.{◌≡◌, ◌++◌, ◌↔◌, ℕ, List, true};
 ghost use Rattle.whole_circuits.specs.Outputs.{AreAround, AreOpen, joins_others, joins_own, are_open, open_pin, own_outputs};
 ghost use Rattle.vrt_model.specs.WholeInstances.{OutputAt};
 ghost use Rattle.vrt_model.specs.declared.circuit.Device.{Device as DeviceValue};
@@ -14,7 +14,7 @@ use vrt_model::{Circuit, WholePin};
 pub struct NetMarks {
     /// A mark for each net, set where it has a hold.
     pub held: Vec<bool>,
-    /// For each net sixteen counts of the channels there that are not inside whole instances, by the levels of their devices.
+    /// For each net a count for each level: of the channels there of devices of this level that are not inside whole instances.
     pub channels: Vec<usize>,
     /// For each net what outputs of the other whole instances are there.
     pub taken: Vec<Taken>,

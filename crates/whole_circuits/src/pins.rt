@@ -1,8 +1,8 @@
 //! The pins of an instance that is left whole.
 
-ghost use Rattle.std.specs.Prelude.{◌≡◌, ◌+◌, ◌++◌, [], List, ℕ, IfOk, OnOk, option_and_then, slice_get, unwrap_or};
+ghost use Rattle.std.specs.Prelude.{◌≡◌, ◌+◌, ◌++◌, [], List, IfOk, OnOk};
 ghost use Rattle.std.specs.List.{cons_option};
-ghost use Rattle.whole_circuits.specs.Pins.{IsAtPorts, AreDrivesOf, AreObserved, drive_at, driven_pin, input_pin, next_output, pins_by, driven_by};
+ghost use Rattle.whole_circuits.specs.Pins.{IsAtPorts, AreDrivesOf, AreObserved, drive_at, driven_pin, input_pin, next_output};
 ghost use Rattle.vrt_model.specs.Comparison.{Comparison};
 ghost use Rattle.vrt_model.specs.Unrolled.{Place as FlatPlace};
 ghost use Rattle.vrt_model.specs.WholeInstances.{driven_pins as all_driven, input_pins as all_inputs};

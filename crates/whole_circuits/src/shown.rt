@@ -1,7 +1,7 @@
 //! The devices and instances of a flat circuit that are left where some of its instances are whole.
 
-ghost use Rattle.std.specs.Prelude.{◌≡◌, ◌++◌, ◌∷◌, [], IfOk, OnOk, map, cond};
-ghost use Rattle.whole_circuits.specs.Shown.{AreMarks, device_places, instances_left, devices_left};
+ghost use Rattle.std.specs.Prelude.{◌≡◌, ◌++◌, ◌∷◌, [], IfOk, OnOk, cond};
+ghost use Rattle.whole_circuits.specs.Shown.{AreMarks, device_places, devices_left};
 ghost use Rattle.vrt_model.specs.CheckedParts.{checked_devices, checked_instances};
 ghost use Rattle.vrt_model.specs.Cut.{Cut};
 ghost use Rattle.vrt_model.specs.FlatCircuit.{flat_devices, flat_instances};

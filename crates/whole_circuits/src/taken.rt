@@ -2,7 +2,6 @@
 
 ghost use Rattle.std.specs.Prelude.{◌≡◌, ◌&&◌, IfOk, replicate};
 ghost use Rattle.whole_circuits.specs.Taken.{admits, joins, shared, taken_at};
-ghost use Rattle.whole_circuits.specs.declared.taken.Taken.{Taken as TakenValue};
 ghost use Rattle.whole_circuits.specs.declared.taken.Taken.TheVariants.{Free as FreeNet};
 ghost use Rattle.vrt_model.specs.declared.whole.Drive.{Drive as DriveValue};
 

@@ -1,6 +1,6 @@
 //! The instances of an unrolled cell that are left whole.
 
-ghost use Rattle.std.specs.Prelude.{◌≡◌, ◌<◌, ◌^◌, ◌++◌, ◌∷◌, [], IfOk, OnOk, List, Some, length, slice_get};
+ghost use Rattle.std.specs.Prelude.{◌≡◌, ◌<◌, ◌^◌, ◌++◌, ◌∷◌, [], IfOk, OnOk, List, Some, length};
 ghost use Rattle.std.specs.List.{AllZip};
 ghost use Rattle.net_places.specs.Instances.{AreSmall};
 ghost use Rattle.whole_circuits.specs.Ends.{HasEnds};

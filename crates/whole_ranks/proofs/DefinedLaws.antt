@@ -1,6 +1,6 @@
 -- A net responds in one way where the observed nets of lower rank have bits; so a solution without fights and floats is defined.
-use Rattle.std.proofs.Common.{◌≡◌, ℕ, zero, suc, ◌<◌, ◌⊎◌, Bool, true, false, cond, Option, Some, length, slice_get, arith, ap, subst, sym, refl, ◌∙◌, inl, inr}
-use Rattle.std.specs.Prelude.{option_map, unwrap_or}
+use Rattle.std.proofs.Common.{◌≡◌, ℕ, zero, suc, ◌<◌, ◌⊎◌, Bool, true, false, cond, Option, Some, length, arith, ap, subst, sym, refl, ◌∙◌, inl, inr}
+use Rattle.std.specs.Prelude.{unwrap_or}
 use Rattle.std.proofs.lemmas.Bool.{cases_Bool, cond-false, cond-true}
 use Rattle.std.proofs.lemmas.Option.{same_Some}
 use Rattle.channel_parts.specs.OneSolution.{AreDetermined, AreObserved, HasDrives, HasKnownBits, SameBelow}
@@ -11,7 +11,7 @@ use Rattle.known_nets.specs.Wired.{AreOutputsPlain}
 use Rattle.vrt_model.proofs.Bounded.{response_inside}
 use Rattle.vrt_model.proofs.Decidable.{some_response}
 use Rattle.vrt_model.proofs.Filtered.{device_among}
-use Rattle.vrt_model.proofs.GatesGiven.{IsGiven, base_reading, given_once, plain_any}
+use Rattle.vrt_model.proofs.GatesGiven.{IsGiven, base_reading, given_at_is, given_once, plain_any}
 use Rattle.vrt_model.proofs.Laws.{turned}
 use Rattle.vrt_model.proofs.Lists.{at_map}
 use Rattle.vrt_model.proofs.Members.{all_among}
@@ -24,13 +24,12 @@ use Rattle.vrt_model.specs.Levels.{source_level}
 use Rattle.vrt_model.specs.Lists.{At}
 use Rattle.vrt_model.specs.Networks.{Covers, HasRanges}
 use Rattle.vrt_model.specs.Path.{IsOn, IsOutputRoot, Joins, Network, Root}
-use Rattle.vrt_model.specs.Reading.{HasGivenBit, IsReading, conducts_at, is_given}
+use Rattle.vrt_model.specs.Reading.{HasGivenBit, IsReading, conducts_at, is_given, is_given_at}
 use Rattle.vrt_model.specs.Response.{Fight, Float, IsResponse, Response, Shows}
 use Rattle.vrt_model.specs.Solution.{Agrees, AlwaysResponds, IsSolution}
 use Rattle.vrt_model.specs.State.{IsState, OutputPin, Setting, State, network_of, output_pins}
 use Rattle.vrt_model.specs.declared.circuit.Circuit.{Circuit}
 use Rattle.vrt_model.specs.declared.circuit.Device.{Device}
-use Rattle.vrt_model.specs.declared.circuit.FlatNet.{FlatNet}
 use Rattle.vrt_model.specs.declared.rules.Phase.{Phase}
 use Rattle.vrt_model.specs.declared.whole.WholePin.{WholePin}
 use Rattle.whole_ranks.proofs.KnownLaws.{known_nets_are_solved}
@@ -67,31 +66,24 @@ module _ (c : Circuit) (phase : Phase) (observed : ℕ → Bool) (setting : Sett
 
   -- ---- a state with the bits of the solution
 
-  given_at : ℕ → Bool
-  given_at n = unwrap_or (option_map (λ (net : FlatNet). is_given net.kind) (slice_get c.nets n)) false
-
   filled : ℕ → Bool
-  filled n = cond (given_at n) (given n) (unwrap_or (a n) false)
-
-  given_at_is : (n : ℕ) (net : FlatNet) → At c.nets n net → given_at n ≡ is_given net.kind
-  unfolding given_at
-  given_at_is n net e = ap (λ (o : Option FlatNet). unwrap_or (option_map (λ (x : FlatNet). is_given x.kind) o) false) e
+  filled n = cond (is_given_at c n) (given n) (unwrap_or (a n) false)
 
   filled_reads : IsReading c phase setting.inputs filled
   unfolding filled
   filled_reads n net e =
       elim (cases_Bool (is_given net.kind)) [
-        | inl t ↦ subst (HasGivenBit phase setting.inputs net.kind n) (sym (cond-true (given_at n) (given n) (unwrap_or (a n) false) (given_at_is n net e ∙ t))) (base_reading c phase setting.inputs n net e)
-        | inr f ↦ plain_any phase setting.inputs net.kind n (cond (given_at n) (given n) (unwrap_or (a n) false)) f
+        | inl t ↦ subst (HasGivenBit phase setting.inputs net.kind n) (sym (cond-true (is_given_at c n) (given n) (unwrap_or (a n) false) (given_at_is c n net e ∙ t))) (base_reading c phase setting.inputs n net e)
+        | inr f ↦ plain_any phase setting.inputs net.kind n (cond (is_given_at c n) (given n) (unwrap_or (a n) false)) f
       ]
 
   filled_agrees : Agrees observed a filled
   unfolding filled
   filled_agrees n v o e =
       elim (given_or_plain c n (seen.nets n o)) [
-        | inl g ↦ cond-true (given_at n) (given n) (unwrap_or (a n) false) (given_at_is n g.0 g.1 ∙ g.2) ∙ same_Some (given n) v (sym (given_solved n o g) ∙ e)
+        | inl g ↦ cond-true (is_given_at c n) (given n) (unwrap_or (a n) false) (given_at_is c n g.0 g.1 ∙ g.2) ∙ same_Some (given n) v (sym (given_solved n o g) ∙ e)
         | inr p ↦
-            cond-false (given_at n) (given n) (unwrap_or (a n) false) (given_at_is n p.0 p.1 ∙ ap is_given p.2) ∙ ap (λ (x : Option Bool). unwrap_or x false) e
+            cond-false (is_given_at c n) (given n) (unwrap_or (a n) false) (given_at_is c n p.0 p.1 ∙ ap is_given p.2) ∙ ap (λ (x : Option Bool). unwrap_or x false) e
       ]
 
   state : State

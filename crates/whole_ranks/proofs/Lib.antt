@@ -1,5 +1,4 @@
 pub mod ChainRanks
-pub mod CheckedArcLaws
 pub mod CoverLaws
 pub mod DefinedLaws
 pub mod DeterminedLaws
@@ -9,4 +8,3 @@ pub mod LogicLaws
 pub mod PlaceLaws
 pub mod RankLaws
 pub mod SolvedLaws
-pub mod UnlinkedLaws

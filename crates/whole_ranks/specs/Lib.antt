@@ -1,10 +1,8 @@
-pub mod CheckedArcs
 pub mod Defined
 pub mod Idle
 pub mod KnownNets
 pub mod Logic
 pub mod Ranks
 pub mod Solved
-pub mod Unlinked
 pub mod WholeCells
 pub mod WholePlaces

@@ -3,17 +3,14 @@
 //! contract of a function that does nothing.
 #![tactic(auto)]
 
-mod checked_arcs;
 mod defined;
 mod idle;
 mod known;
 mod logic;
 mod ranks;
 mod solved;
-mod unlinked;
 mod whole_cells;
 
-pub use checked_arcs::{checked_arcs_are_acyclic, checked_arcs_are_link_arcs};
 pub use defined::{settled_nets_respond, solutions_are_defined};
 pub use idle::idle_inputs_change_nothing;
 pub use known::{known_nets_are_solved, known_nets_show, known_nets_stand, no_arcs_to_known_nets};
@@ -22,5 +19,4 @@ pub use ranks::{acyclic_nets_have_ranks, parts_have_one_rank, ranked_nets_are_ac
 pub use solved::{
     acyclic_nets_have_one_solution, ranked_nets_have_drives, ranked_nets_have_one_solution,
 };
-pub use unlinked::{links_change_no_gate_arcs, links_change_no_known_nets, links_change_no_parts};
 pub use whole_cells::{whole_cells_are_determined, whole_places_stand_for_cells};

@@ -1,7 +1,6 @@
 pub mod GivenShow
 pub mod InstanceLaws
 pub mod KnownInsideLaws
-pub mod LeastLevels
 pub mod ObservedCases
 pub mod ObservedLaws
 pub mod PairedPortLaws

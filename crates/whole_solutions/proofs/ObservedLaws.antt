@@ -14,7 +14,7 @@ use Rattle.vrt_model.specs.Comparison.{CellPort, Comparison, cell_at, is_observe
 use Rattle.vrt_model.specs.FlatCircuit.{net_id}
 use Rattle.vrt_model.specs.Known.{IsPlain}
 use Rattle.vrt_model.specs.Lists.{Among, At}
-use Rattle.vrt_model.specs.Reading.{is_given}
+use Rattle.vrt_model.specs.Reading.{is_given, is_given_at}
 use Rattle.vrt_model.specs.declared.circuit.Circuit.{Circuit}
 use Rattle.vrt_model.specs.declared.circuit.FlatNet.{FlatNet}
 use Rattle.vrt_model.specs.declared.circuit.Hold.{Hold}
@@ -26,7 +26,7 @@ use Rattle.vrt_model.specs.declared.rules.Rules.{Rules}
 use Rattle.vrt_model.specs.declared.whole.Whole.{Whole}
 use Rattle.vrt_model.specs.declared.whole.WholePin.{WholePin}
 use Rattle.whole_solutions.proofs.ObservedCases.{IsObservedFor, gate_observed, hold_observed, instance_observed, observed_for, pin_observed, port_observed}
-use Rattle.whole_solutions.specs.Observed.{HasLeftInstances, HidesItsNets, ObservedNetsAreThere, WholeObservesNoMore, is_given_at, is_observed_or_given}
+use Rattle.whole_solutions.specs.Observed.{HasLeftInstances, HidesItsNets, ObservedNetsAreThere, WholeObservesNoMore, is_observed_or_given}
 
 module _ (k q : Comparison) (phase : ℕ) (whole_circuit : Circuit) (at place fresh : ℕ → ℕ) (remaining compared exposed : ℕ → Bool) (drive : ℕ → ℕ)
     (same_design : q.design ≡ k.design) (same_rules : q.rules ≡ k.rules)

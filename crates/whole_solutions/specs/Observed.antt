@@ -1,6 +1,6 @@
 -- Which nets are observed in a circuit with a cell in it, in the circuit with the cell whole, and in the cell alone. Nets keep
 -- their numbers where the cell is whole.
-use Rattle.std.specs.Prelude.{◌≡◌, ℕ, ◌<◌, ◌⊎◌, Bool, true, false, ◌||◌, map, length, option_map, slice_get, unwrap_or, is_some}
+use Rattle.std.specs.Prelude.{◌≡◌, ℕ, ◌<◌, ◌⊎◌, Bool, true, false, ◌||◌, map, length, is_some}
 use Rattle.cell_inside.specs.LeftWhole.{IsLeftWhole}
 use Rattle.cell_inside.specs.Placed.{IsPlaced}
 use Rattle.cell_inside.specs.Regions.{IsGivenNet}
@@ -11,7 +11,7 @@ use Rattle.vrt_model.specs.Comparison.{CellPort, Comparison, cell_at, is_observe
 use Rattle.vrt_model.specs.FlatCircuit.{net_id}
 use Rattle.vrt_model.specs.Known.{IsPlain}
 use Rattle.vrt_model.specs.Lists.{Among, At}
-use Rattle.vrt_model.specs.Reading.{is_given}
+use Rattle.vrt_model.specs.Reading.{is_given_at}
 use Rattle.vrt_model.specs.declared.circuit.Circuit.{Circuit}
 use Rattle.vrt_model.specs.declared.circuit.FlatInstance.{FlatInstance}
 use Rattle.vrt_model.specs.declared.circuit.FlatNet.{FlatNet}
@@ -22,10 +22,6 @@ use Rattle.vrt_model.specs.declared.whole.Whole.{Whole}
 use Rattle.vrt_model.specs.declared.whole.WholePin.{WholePin}
 
 -- ---- what is observed or given
-
--- whether the net is there, with a given value
-abbrev pub is_given_at : Circuit → ℕ → Bool
-is_given_at c n = unwrap_or (option_map (λ (net : FlatNet). is_given net.kind) (slice_get c.nets n)) false
 
 -- a net is observed, or has a given value, which it always shows
 abbrev pub is_observed_or_given : Comparison → ℕ → ℕ → Bool

@@ -1,6 +1,7 @@
-use Rattle.std.proofs.Common.{ℕ, ◌+◌, ◌<◌, Err, arith, refl}
+use Rattle.std.proofs.Common.{ℕ, ◌+◌, ◌<◌, List, Err, Ok, arith, length, refl, subst}
+use Rattle.std.proofs.lemmas.List.{set_past}
 use Rattle.bdd_core.specs.Diagram.{Function, IsWithin}
-use Rattle.bdd_core.specs.Store.{function_of}
+use Rattle.bdd_core.specs.Store.{Gives, function_of}
 use Rattle.bdd_ops.proofs.CountingLaws.{counts_made, counts_more, counts_then}
 use Rattle.bdd_ops.proofs.WithinLaws.{within_or, within_same}
 use Rattle.bdd_ops.specs.Ops.{or_of}
@@ -20,8 +21,11 @@ returns-in-Err-clause-counts c u reads sum =
 
 pub returns-clause-gives : goal.returns-clause-gives
 returns-clause-gives c =
+    let whole : Gives c.args.store.now c.row_diagram.new.store (λ v. row_fits (bits_in c.args.store.now c.args.values v) c.args.inputs.now c.args.row.now) (Ok c.in-Ok.one) =
+    subst (λ (row : List ℕ). Gives c.args.store.now c.row_diagram.new.store (λ v. row_fits (bits_in c.args.store.now c.args.values v) c.args.inputs.now row) (Ok c.in-Ok.one))
+    (set_past c.args.row.now (length c.args.row.now) 45 (omega arith)) c.in-Ok.ensures.gives in
     let both : Function = or_of (function_of c.row_diagram.new.store c.args.sum) (function_of c.row_diagram.new.store c.in-Ok.one) in
-    added_row c.args.store.now c.row_diagram.new.store c.or.new.store c.args.values c.args.inputs.now c.args.row.now c.args.sum c.in-Ok.one c.or.result c.requires.sum c.in-Ok.ensures.gives
+    added_row c.args.store.now c.row_diagram.new.store c.or.new.store c.args.values c.args.inputs.now c.args.row.now c.args.sum c.in-Ok.one c.or.result c.requires.sum whole
     (gives_made c.row_diagram.new.store c.or.new.store both both c.or.result (λ v. refl) c.or.ensures.makes)
 
 pub returns-clause-counts : goal.returns-clause-counts
@@ -32,7 +36,8 @@ returns-clause-counts c u reads sum =
     let values = c.args.values in
     let inputs = c.args.inputs.now in
     let row = c.args.row.now in
-    let first = c.in-Ok.ensures.gives in
+    let first : Gives old mid (λ v. row_fits (bits_in old values v) inputs row) (Ok c.in-Ok.one) =
+    subst (λ (xs : List ℕ). Gives old mid (λ v. row_fits (bits_in old values v) inputs xs) (Ok c.in-Ok.one)) (set_past row (length row) 45 (omega arith)) c.in-Ok.ensures.gives in
     let before : Function = function_of mid c.args.sum in
     let one : Function = function_of mid c.in-Ok.one in
     let sum_within : IsWithin u before = within_same u (function_of old c.args.sum) before (first.adds.kept c.args.sum.0 c.requires.sum) sum in

@@ -1,10 +1,9 @@
 -- One phase more has a plan, by the last of the parts that are left.
-use Rattle.std.proofs.Common.{◌≡◌, ◌<◌, ◌+◌, ◌++◌, ◌∷◌, [], true, List, length, arith, ap, subst, sym}
+use Rattle.std.proofs.Common.{◌≡◌, ◌+◌, [], true, List, arith, ap, subst, sym}
 use Rattle.std.specs.Prelude.{Option, unwrap_or}
 use Rattle.cell_room.proofs.WorkLaws.{plans_more}
 use Rattle.cell_room.specs.Works.{ArePlans}
 use Rattle.channel_parts.specs.PartLists.{IsPartList}
-use Rattle.channel_parts.specs.declared.part.Parts.{Parts}
 use Rattle.phase_terms.specs.Ready.{comparison_in}
 use Rattle.phase_terms.specs.declared.plan.PhasePlan.{PhasePlan}
 use Rattle.substitute.proofs.BareLaws.{bare_first, bare_rest}

@@ -1,4 +1,4 @@
-use Rattle.std.proofs.Common.{◌<◌, ◌+◌, Bool, false, List, ℕ, length, refl, subst, sym}
+use Rattle.std.proofs.Common.{◌<◌, Bool, false, List, ℕ, length, refl, subst, sym}
 use Rattle.whole_circuits.specs.Counts.{AreChanged, channels_of}
 use Rattle.vrt_model.specs.declared.circuit.Device.{Device}
 use Rattle.substitute.proofs.UnderwayLaws.{model_of_trial, place_of_trial, trial_candidate, trial_settled, trial_without}
