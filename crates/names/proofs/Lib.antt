@@ -1,4 +1,3 @@
-pub mod KeyLaws
 pub mod FilterLaws
 pub mod NameLaws
 pub mod NewLaws

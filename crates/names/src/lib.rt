@@ -2,6 +2,7 @@
 //! lists of names that the crates above share: names with more, each name once, names that do not repeat, and places.
 #![tactic(auto)]
 
+mod key;
 mod set;
 
 pub use set::Names;

@@ -4,32 +4,32 @@ ghost use Rattle.std.specs.Prelude.{◌≡◌, ◌==◌, ◌<◌, ◌∷◌, ◌
 ghost use Rattle.std.specs.List.{position};
 ghost use Rattle.names.specs.Names.{with_name, with_names};
 ghost use Rattle.vrt_model.specs.Lists.{has_name};
-ghost use Rattle.names.specs.Shown.{shown};
 
+use crate::key::{Key, Sought};
 use indexmap::IndexSet;
 use std::alloc::Global;
 use std::marker::Model;
 use vrt_model::{NoMemory, Seq, Text};
 
 /// Whether the set has a name.
-fn has_key(set: &IndexSet<Vec<u8>>, name: &[u8]) -> bool
-    ensures { result ≡ has_name (shown set.now.keys) name.now }
+fn has_key(set: &IndexSet<Key>, name: &[u8]) -> bool
+    ensures { result ≡ has_name set.now.keys name.now }
 {
-    set.contains(name)
+    set.contains(Sought { name })
 }
 
 /// The place of a name in the set.
-fn place_of_key(set: &IndexSet<Vec<u8>>, name: &[u8]) -> Option<usize>
-    ensures { result ≡ position (bytes_eq name.now) (shown set.now.keys) }
+fn place_of_key(set: &IndexSet<Key>, name: &[u8]) -> Option<usize>
+    ensures { result ≡ position (bytes_eq name.now) set.now.keys }
 {
-    set.get_index_of(name)
+    set.get_index_of(Sought { name })
 }
 
 /// Adds a key, the last, unless it is there.
-fn add_key(set: &mut IndexSet<Vec<u8>>, key: Vec<u8>) -> Result<usize, NoMemory>
-    ensures keys { OnOk result (shown set.new.keys ≡ with_name (shown set.old.keys) key.items) }
-    ensures place { IfOk result (λ n. slice_get (shown set.new.keys) n ≡ Some key.items) }
-    ensures err { OnErr result (shown set.new.keys ≡ shown set.old.keys) }
+fn add_key(set: &mut IndexSet<Key>, key: Key) -> Result<usize, NoMemory>
+    ensures keys { OnOk result (set.new.keys ≡ with_name set.old.keys key) }
+    ensures place { IfOk result (λ n. slice_get set.new.keys n ≡ Some key) }
+    ensures err { OnErr result (set.new.keys ≡ set.old.keys) }
 {
     match set.insert_full(key) {
         Ok((place, _)) => Ok(place),
@@ -37,20 +37,33 @@ fn add_key(set: &mut IndexSet<Vec<u8>>, key: Vec<u8>) -> Result<usize, NoMemory>
     }
 }
 
+/// Makes room for keys that come: for all of them where there is none yet, and else for half of them, since some may be
+/// there already. Where memory is wanting there is no room more, and nothing is refused.
+fn make_room(set: &mut IndexSet<Key>, count: usize)
+    ensures { set.new.keys ≡ set.old.keys }
+{
+    let likely = if set.is_empty() {
+        count
+    } else {
+        count.div_ceil(2)
+    };
+    let _reserved = set.reserve(likely);
+}
+
 /// How many keys there are.
-fn count_of_keys(set: &IndexSet<Vec<u8>>) -> usize
-    ensures { result ≡ length (shown set.now.keys) }
+fn count_of_keys(set: &IndexSet<Key>) -> usize
+    ensures { result ≡ length set.now.keys }
 {
     set.len()
 }
 
 /// Copies of the keys, in their order.
-fn copies_of_keys(alloc: Global, keys: &[Vec<u8>]) -> Result<Seq<Text>, NoMemory>
-    ensures { IfOk result (λ texts. texts ≡ shown keys.now) }
+fn copies_of_keys(alloc: Global, keys: &[Key]) -> Result<Seq<Text>, NoMemory>
+    ensures { IfOk result (λ texts. texts ≡ keys.now) }
 {
     let mut texts = Seq::new(alloc);
     for key in keys {
-        let text = Text::from_bytes(alloc, key.as_slice())?;
+        let text = Text::from_bytes(alloc, key.as_bytes())?;
         if texts.push(text).is_err() {
             return Err(NoMemory);
         }
@@ -59,8 +72,8 @@ fn copies_of_keys(alloc: Global, keys: &[Vec<u8>]) -> Result<Seq<Text>, NoMemory
 }
 
 /// Copies of the names of a set, in their order.
-fn copies_of_names(alloc: Global, set: &IndexSet<Vec<u8>>) -> Result<Seq<Text>, NoMemory>
-    ensures { IfOk result (λ texts. texts ≡ shown set.now.keys) }
+fn copies_of_names(alloc: Global, set: &IndexSet<Key>) -> Result<Seq<Text>, NoMemory>
+    ensures { IfOk result (λ texts. texts ≡ set.now.keys) }
 {
     copies_of_keys(alloc, set.as_slice())
 }
@@ -69,7 +82,7 @@ fn copies_of_names(alloc: Global, set: &IndexSet<Vec<u8>>) -> Result<Seq<Text>, 
 /// its hash, in a time that does not grow with the number of names.
 pub struct Names {
     alloc: Global,
-    set: IndexSet<Vec<u8>>,
+    set: IndexSet<Key>,
 }
 
 /// By hand, so that letting go of one is a call.
@@ -84,11 +97,10 @@ impl Drop for Names {
 
 impl Model for Names {
     ghost use Rattle.std.specs.Prelude.{ℕ, List};
-    ghost use Rattle.names.specs.Shown.{shown};
 
     ghost Value = { List (List ℕ) };
 
-    ghost view = { λ n. shown n.set.keys };
+    ghost view = { λ n. n.set.keys };
 }
 
 impl Names {
@@ -136,9 +148,7 @@ impl Names {
         ensures place { IfOk result (λ n. slice_get self.new n ≡ Some name.now) }
         ensures err { OnErr result (self.new ≡ self.old) }
     {
-        let Ok(key) = Vec::from_slice(self.alloc, name) else {
-            return Err(NoMemory);
-        };
+        let key = Key::new(self.alloc, name)?;
         add_key(&mut self.set, key)
     }
 
@@ -159,6 +169,7 @@ impl Names {
     pub fn add_all(&mut self, names: &[Text]) -> Result<(), NoMemory>
         ensures { OnOk result (self.new ≡ with_names self.old names.now) }
     {
+        make_room(&mut self.set, names.len());
         for name in names {
             self.number(name.as_bytes())?;
         }
