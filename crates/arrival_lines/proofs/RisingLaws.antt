@@ -1,7 +1,7 @@
 -- Ports that are named are input ports, each once.
 use Rattle.std.proofs.Common.{◌≡◌, ℕ, zero, suc, ◌+◌, ◌<◌, ◌++◌, ◌∷◌, [], ◌||◌, ◌&&◌, Bool, true, false, cond, List, Option, Some, None, ap, arith, length, refl, subst, sym, ◌∙◌}
 use Rattle.std.specs.Prelude.{bytes_eq, is_some}
-use Rattle.std.proofs.lemmas.Bool.{false≢true}
+use Rattle.std.proofs.lemmas.Bool.{false≢true, or_parts}
 use Rattle.std.proofs.lemmas.List.{length-map}
 use Rattle.std.proofs.lemmas.List.Folds.{list_any-append}
 use Rattle.std.proofs.lemmas.Option.{none-some, same_Some}
@@ -12,23 +12,13 @@ use Rattle.mode_lines.specs.Lists.{first_fault}
 use Rattle.mode_lines.specs.declared.valuations.AtFault.{AtFault}
 use Rattle.mode_lines.specs.declared.valuations.AtFault.TheVariants.{Twice}
 use Rattle.phase_ports.proofs.PortLaws.{name_is}
+use Rattle.paired_ports.proofs.PortLists.{net_for_each}
 use Rattle.vrt_model.proofs.Lists.{at_map, map_at, one_at}
-use Rattle.vrt_model.specs.CellRules.{supply_of}
-use Rattle.vrt_model.specs.Comparison.{CellPort, Comparison, cell_at, input_signal, port_nets, port_nets_from, ports_from, ports_of}
+use Rattle.vrt_model.specs.Comparison.{CellPort, Comparison, cell_at, input_signal, port_nets, ports_from, ports_of}
 use Rattle.vrt_model.specs.Lists.{At, has_name}
 use Rattle.vrt_model.specs.declared.pairing.PortRole.{PortRole}
-use Rattle.vrt_model.specs.declared.rules.Rules.{Rules}
 
 -- ---- a port
-
--- each port has a net
-nets_each : (rules : Rules) (next : ℕ) (names : List (List ℕ)) → length (port_nets_from rules next names) ≡ length names
-nets_each rules next [] = refl
-nets_each rules next (name ∷ names) = by_supply (λ n. nets_each rules n names) (supply_of rules name) where
-  by_supply : ((n : ℕ) → length (port_nets_from rules n names) ≡ length names) → (o : Option Bool)
-      → length {A = ℕ} (elim o [ None ↦ next ∷ port_nets_from rules (suc next) names | Some value ↦ cond value 1 0 ∷ port_nets_from rules next names ]) ≡ suc (length names)
-  by_supply each None = ap suc (each (suc next))
-  by_supply each (Some value) = ap suc (each next)
 
 -- a port at a place from a number on is an input of this name
 pub record IsInputAt (ports : List CellPort) (at place : ℕ) (name : List ℕ) : Type 0 where
@@ -77,15 +67,10 @@ not_before_first (Some place) before name e =
       by_test false is none = is
       by_test true is none = absurd (none-some _ (sym none))
 
-both_false : (p q : Bool) → (p || q) ≡ false → (p ≡ false) × (q ≡ false)
-both_false false false e = (refl, refl)
-both_false false true e = absurd (false≢true (sym e))
-both_false true q e = absurd (false≢true (sym e))
-
 behind_one : (before : List (List ℕ)) (first name : List ℕ) → has_name (before ++ first ∷ []) name ≡ false → (has_name before name ≡ false) × ((first ≡ name) → ⊥)
 behind_one before first name e =
-    let parts = both_false (has_name before name) (bytes_eq name first || false) (sym (list_any-append (bytes_eq name) before (first ∷ [])) ∙ e) in
-    let apart = both_false (bytes_eq name first) false parts.1 in
+    let parts = or_parts (has_name before name) (bytes_eq name first || false) (sym (list_any-append (bytes_eq name) before (first ∷ [])) ∙ e) in
+    let apart = or_parts (bytes_eq name first) false parts.1 in
     (parts.0, λ same. false≢true (sym apart.0 ∙ (bytes_eq-Decides name first).1 (sym same)))
 
 module _ (place_of : List ℕ → Option ℕ) where
@@ -130,7 +115,7 @@ module _ (k : Comparison) (names : List (List ℕ)) (places : List ℕ) (are : A
   input_at : (name : List ℕ) (place : ℕ) → input_named k name ≡ Some place → IsInputAt (ports_of k) 0 place name
   input_at name place e =
       let own = (cell_at k.design k.cell).ports in
-      found_at 0 0 own (port_nets k.rules own) k.pairing.ports name place refl (nets_each k.rules 2 own) e
+      found_at 0 0 own (port_nets k.rules own) k.pairing.ports name place refl (net_for_each k.rules 2 own) e
 
   own_name : (name : List ℕ) (place : ℕ) → input_named k name ≡ Some place → At (cell_at k.design k.cell).ports place name
   own_name name place e =

@@ -46,10 +46,6 @@ true_of_none design blif rules cell f equal stateless drives = record {
 }
 
 module _ (design : Design) (blif : Blif) (rules : Rules) (cell m : ℕ) (f : Flattened) (inputs : AreInputs design blif rules cell) (is : IsFlattened design blif rules cell m f) where
-  -- what is compared, by the steps and by the definitions
-  abbrev k : Comparison
-  k = comparison design rules cell f
-
   same : comparison design rules cell f ≡ comparison_of design blif rules cell m
   same = comparison_is design blif rules cell m f is
 

@@ -1,7 +1,7 @@
 -- The instances of an unrolled cell have a net for each port of their cells, which are there.
-use Rattle.std.proofs.Common.{◌≡◌, ℕ, zero, suc, ◌+◌, ◌<◌, Bool, true, false, not, List, [], ◌∷◌, length, Option, Some, None, arith, ap, subst, sym, refl, ◌∙◌}
+use Rattle.std.proofs.Common.{◌≡◌, ℕ, zero, suc, ◌+◌, ◌<◌, not, List, [], ◌∷◌, length, Option, Some, None, arith, ap, subst, sym, refl, ◌∙◌}
 use Rattle.std.specs.Prelude.{◌==◌, bytes_eq, flat_map, position, slice_get, unwrap_or}
-use Rattle.std.proofs.lemmas.Bool.{and_parts, eqb-true, true≢false}
+use Rattle.std.proofs.lemmas.Bool.{and_parts, eqb-true, not-false}
 use Rattle.std.proofs.lemmas.List.Quantifiers.{position-Some}
 use Rattle.std.proofs.lemmas.List.{length-map}
 use Rattle.std.proofs.lemmas.Option.{none-some, same_Some}
@@ -14,11 +14,6 @@ use Rattle.vrt_model.specs.Lists.{Among}
 use Rattle.vrt_model.specs.Unrolled.{Place, Top, all_places, cell_named, deepest, instances_at, instances_from, net_at, own_count, own_nets, places_in, top_place}
 use Rattle.vrt_model.specs.declared.design.Cell.{Cell}
 use Rattle.vrt_model.specs.declared.design.InstanceCard.{InstanceCard}
-
--- a test that is not false is true
-held : (b : Bool) → not b ≡ false → b ≡ true
-held true e = refl
-held false e = absurd (true≢false e)
 
 -- an item is among those of its list
 item_among : {X : Type 0} (xs : List X) (i : ℕ) (d : X) → i < length xs → Among xs (unwrap_or (slice_get xs i) d)
@@ -47,7 +42,7 @@ module _ (t : Top) (good : bad_card t.design ≡ None) (low : t.cell < length t.
   card_nets k card lt m =
       let cell = item_among t.design.cells k (record { line = 0; name = []; ports = []; devices = []; instances = [] }) lt in
       let all = flat_map_among (λ (c : Cell). c.instances) t.design.cells (cell_at t.design k) card cell m in
-      let is = held (is_good_card t.design card) (find_none (λ (i : InstanceCard). not (is_good_card t.design i)) (flat_map (λ (c : Cell). c.instances) t.design.cells) card good all) in
+      let is = not-false (is_good_card t.design card) (find_none (λ (i : InstanceCard). not (is_good_card t.design i)) (flat_map (λ (c : Cell). c.instances) t.design.cells) card good all) in
       eqb-true (length card.nets) (length (cell_at t.design (cell_named t.design card.cell)).ports)
       (and_parts (has_cell t.design card) (length card.nets == length (cell_at t.design (cell_named t.design card.cell)).ports) is).1
 

@@ -1,11 +1,9 @@
 -- The names of the variables, by the roles of ports.
-use Rattle.std.proofs.Common.{◌≡◌, ℕ, suc, List, Option, None, Some, Bool, cond, [], ◌∷◌, ap, arith, length, map, refl}
+use Rattle.std.proofs.Common.{◌≡◌, ℕ, suc, List, Option, [], ◌∷◌, ap, arith, length, map, refl}
 use Rattle.std.specs.Prelude.{filter_map, option_map}
 use Rattle.cell_writer.specs.Names.{input_name, name_in}
 use Rattle.vrt_model.specs.Assignment.{Tied}
-use Rattle.vrt_model.specs.Comparison.{CellPort, input_signal, port_nets_from, ports_from}
-use Rattle.vrt_model.specs.CellRules.{supply_of}
-use Rattle.vrt_model.specs.declared.rules.Rules.{Rules}
+use Rattle.vrt_model.specs.Comparison.{CellPort, input_signal, ports_from}
 use Rattle.vrt_model.specs.declared.pairing.PortRole.{PortRole}
 use Rattle.vrt_model.specs.declared.pairing.PortRole.TheVariants.{Supply, Clock, Input, Output}
 
@@ -31,19 +29,3 @@ names_by_roles signals at (x ∷ xs) (n ∷ ns) (r ∷ rs) a b = by_role r (name
     by_role (Clock clock) rest = rest
     by_role (Input signal) rest = ap (λ (names : List (List ℕ)). name_in signals signal ∷ names) rest
     by_role (Output signal) rest = rest
-
--- a net for each name
-abbrev numbers_by : Rules → Option Bool → ℕ → List (List ℕ) → List ℕ
-numbers_by rules o next names =
-    elim o [
-      | None ↦ next ∷ port_nets_from rules (suc next) names
-      | Some value ↦ cond value 1 0 ∷ port_nets_from rules next names
-    ]
-
-by_supply : (rules : Rules) (next : ℕ) (xs : List (List ℕ)) (o : Option Bool) → ((n : ℕ) → length (port_nets_from rules n xs) ≡ length xs) → length (numbers_by rules o next xs) ≡ suc (length xs)
-by_supply rules next xs None rest = ap suc (rest (suc next))
-by_supply rules next xs (Some value) rest = ap suc (rest next)
-
-pub nets_count : (rules : Rules) (next : ℕ) (names : List (List ℕ)) → length (port_nets_from rules next names) ≡ length names
-nets_count rules next [] = refl
-nets_count rules next (x ∷ xs) = by_supply rules next xs (supply_of rules x) (λ n. nets_count rules n xs)

@@ -4,7 +4,8 @@ use Rattle.std.specs.Prelude.{filter, filter_map, not}
 use Rattle.std.proofs.lemmas.List.{length-map}
 use Rattle.cell_writer.proofs.FunctionLaws.{logic_by, logic_of_cell}
 use Rattle.cell_writer.proofs.BudgetLaws.{bare_counts_are, may_pass}
-use Rattle.cell_writer.proofs.VariableLaws.{names_by_roles, nets_count}
+use Rattle.cell_writer.proofs.VariableLaws.{names_by_roles}
+use Rattle.paired_ports.proofs.PortLists.{net_for_each}
 use Rattle.cell_writer.proofs.WritingLaws.{are_plans, comparison_same, is_combinational, is_formed, is_read, is_ready, is_supported, no_elements, same_sources, steps}
 use Rattle.cell_writer.specs.Names.{input_name}
 use Rattle.diagram_lists.specs.Listed.{function_from, functions_of}
@@ -76,7 +77,7 @@ module _ (m : ℕ) (w : Writing) (is : IsWriting m w) (may : MayBeWritten (writt
   pub variables_named : filter_map (input_name w.planned.now.flattened.model.signals) w.planned.now.flattened.pairing.ports ≡ input_names (written_of w m)
   variables_named =
       let names = (cell_at w.design.now w.cell).ports in
-      sym (names_by_roles w.planned.now.flattened.model.signals 0 names (port_nets w.rules.now names) w.planned.now.flattened.pairing.ports (nets_count w.rules.now 2 names) is.planned.flattened.roles.each)
+      sym (names_by_roles w.planned.now.flattened.model.signals 0 names (port_nets w.rules.now names) w.planned.now.flattened.pairing.ports (net_for_each w.rules.now 2 names) is.planned.flattened.roles.each)
       ∙ ap input_names (comparison_same m w is)
 
   -- so many variables

@@ -1,12 +1,11 @@
 -- A search down from a cell.
-use Rattle.std.proofs.Common.{◌≡◌, ◌<◌, ◌≤◌, ◌+◌, ◌++◌, ◌∷◌, inl, inr, [], ℕ, zero, suc, List, Bool, true, false, map, take, length, get_or, set, replicate, Option, Some, None, Result, Ok, Err, refl, ap, ap₂, sym, ◌∙◌, subst, arith, length-append, unwrap_or}
+use Rattle.std.proofs.Common.{◌≡◌, ◌<◌, ◌≤◌, ◌+◌, ◌++◌, ◌∷◌, inl, inr, [], ℕ, zero, suc, List, Bool, true, false, map, take, length, get_or, replicate, Option, Some, None, Result, Ok, Err, refl, ap, ap₂, sym, ◌∙◌, subst, arith, unwrap_or}
 use Rattle.std.specs.Prelude.{◌⊎◌, ◌↔◌, ◌||◌, ◌==◌, slice_get, position, filter, bytes_eq, IfOk}
 use Rattle.std.proofs.lemmas.Bool.{cases_eq}
 use Rattle.std.proofs.lemmas.Bool.Decides.{nat_tests}
-use Rattle.std.proofs.lemmas.List.{get_or-set_same, get_or-set_other, map_more, length-set}
+use Rattle.std.proofs.lemmas.List.{map_more}
 use Rattle.std.proofs.lemmas.Option.{slice_get_within}
 use Rattle.names.proofs.PlaceLaws.{placed_within}
-use Rattle.vrt_model.proofs.Lists.{at_front, at_last}
 use Rattle.vrt_model.proofs.Members.{among_left, among_right}
 use Rattle.vrt_model.specs.Comparison.{cell_at}
 use Rattle.vrt_model.specs.Hierarchy.{cells_in}
@@ -27,72 +26,7 @@ at_split [] ys i x e = inr (i, e)
 at_split (z ∷ xs) ys zero x e = inl e
 at_split (z ∷ xs) ys (suc i) x e = at_split xs ys i x e
 
--- ---- one is met
-
--- that was met before
-pub met_before : (marks : List Bool) (met : List ℕ) (number : ℕ) → (number < length marks → is_marked marks number ≡ true) → HasMet marks marks met met (number ∷ [])
-met_before marks met number known = record {
-  size = refl;
-  longer = omega arith;
-  stays = λ n e. e;
-  marked = λ n among lt. only n among.0 among.1 lt;
-  fresh = λ n e. inl e;
-  front = λ i n e. e;
-  behind = λ i n e. inl e;
-} where
-  only : (n i : ℕ) → At (number ∷ []) i n → n < length marks → is_marked marks n ≡ true
-  only n zero e lt = let same : number ≡ n = cc in subst (λ k. is_marked marks k ≡ true) same (known (subst (λ k. k < length marks) (sym same) lt))
-  only n (suc i) e lt = cc
-
--- or is met now
-met_new : (marks : List Bool) (met : List ℕ) (number : ℕ) → number < length marks → HasMet marks (set marks number true) met (met ++ number ∷ []) (number ∷ [])
-met_new marks met number lt = record {
-  size = length-set marks number true;
-  longer = omega (arith, length-append met (number ∷ []));
-  stays = λ n e. stay n e;
-  marked = λ n among l. only n among.0 among.1;
-  fresh = λ n e. found n e;
-  front = λ i n e. at_front met (number ∷ []) i n e;
-  behind = λ i n e. at_split met (number ∷ []) i n e;
-} where
-  here : is_marked (set marks number true) number ≡ true
-  here = get_or-set_same marks number true false lt
-
-  only : (n i : ℕ) → At (number ∷ []) i n → is_marked (set marks number true) n ≡ true
-  only n zero e = let same : number ≡ n = cc in subst (λ k. is_marked (set marks number true) k ≡ true) same here
-  only n (suc i) e = cc
-
-  stay : (n : ℕ) → is_marked marks n ≡ true → is_marked (set marks number true) n ≡ true
-  stay n e = elim (cases_eq n number) [
-    | inl same ↦ subst (λ k. is_marked (set marks number true) k ≡ true) (sym same) here
-    | inr other ↦ get_or-set_other marks number n true false other ∙ e
-  ]
-
-  found : (n : ℕ) → is_marked (set marks number true) n ≡ true → (is_marked marks n ≡ true) ⊎ (Among (number ∷ []) n × Waits (length met) (met ++ number ∷ []) n)
-  found n e = elim (cases_eq n number) [
-    | inl same ↦ inr ((0, ap Some (sym same)), (length met, omega arith, subst (λ k. At (met ++ number ∷ []) (length met) k) (sym same) (at_last met number)))
-    | inr other ↦ inl (sym (get_or-set_other marks number n true false other) ∙ e)
-  ]
-
-pub met_now : (marks : List Bool) (met met' : List ℕ) (number : ℕ) → number < length marks → met' ≡ met ++ number ∷ []
-    → HasMet marks (set marks number true) met met' (number ∷ [])
-met_now marks met met' number lt e =
-    subst (λ (xs : List ℕ). HasMet marks (set marks number true) met xs (number ∷ [])) (sym e) (met_new marks met number lt)
-
 -- ---- numbers are met
-
-pub met_none : (marks : List Bool) (met : List ℕ) → HasMet marks marks met met []
-met_none marks met = record {
-  size = refl;
-  longer = omega arith;
-  stays = λ n e. e;
-  marked = λ n among lt. none n among.0 among.1;
-  fresh = λ n e. inl e;
-  front = λ i n e. e;
-  behind = λ i n e. inl e;
-} where
-  none : (n i : ℕ) → At [] i n → is_marked marks n ≡ true
-  none n i e = cc
 
 pub met_more : (a b c : List Bool) (p q r xs ys : List ℕ) → HasMet a b p q xs → HasMet b c q r ys → HasMet a c p r (xs ++ ys)
 met_more a b c p q r xs ys first second = record {

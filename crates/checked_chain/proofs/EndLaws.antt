@@ -8,8 +8,8 @@ use mathlib.Core.Path.{fun_ext}
 use Rattle.checked_chain.proofs.ChoiceLaws.{devices_same, holds_same, instances_same, outputs_same, whole_places_same}
 use Rattle.checked_chain.proofs.WholeLaws.{unlinked, whole_beside}
 use Rattle.checked_chain.specs.Steps.{ChainBeginsFlat, ChainEndsChecked, PlacesAloneCount}
-use Rattle.model_laws.proofs.NoWhole.{flat_with_none}
-use Rattle.model_laws.specs.NoWhole.{none}
+use Rattle.checked_chain.proofs.NoWhole.{flat_with_none}
+use Rattle.checked_chain.specs.NoWhole.{none}
 use Rattle.vrt_model.specs.Checked.{IsCircuitWith, before}
 use Rattle.vrt_model.specs.CheckedParts.{checked_devices}
 use Rattle.vrt_model.specs.Cut.{Cut, NumberedPlace, whole_places}

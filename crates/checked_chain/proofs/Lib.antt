@@ -9,6 +9,7 @@ pub mod GroupLaws
 pub mod InstanceLaws
 pub mod KeptPlaces
 pub mod LinkLaws
+pub mod NoWhole
 pub mod OrderLaws
 pub mod PathOrder
 pub mod SettingLaws

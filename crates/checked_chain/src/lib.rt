@@ -5,6 +5,7 @@
 mod arcs;
 mod drives;
 mod findings;
+mod flat;
 mod holds;
 mod instances;
 mod order;
@@ -13,6 +14,7 @@ mod steps;
 pub use arcs::{arcs_are_of_choice, chain_is_acyclic, circuits_are_acyclic};
 pub use drives::drives_stay;
 pub use findings::descriptions_move;
+pub use flat::flat_circuits;
 pub use holds::{
     chain_keeps_holds, constraints_are_same, ends_stay_shown, groups_are_same, settings_are_same,
     variables_are_same,

@@ -1,7 +1,7 @@
 -- What the words of the kept circuit say at a solution, and what is found so is the first fault of the kept circuit.
 use Rattle.std.proofs.Common.{◌≡◌, ℕ, Bool, ◌⊎◌, true, false, not, List, Option, Some, None, ap, refl, sym, subst, ◌∙◌, inl, inr}
 use Rattle.std.specs.Prelude.{◌↔◌}
-use Rattle.std.proofs.lemmas.Bool.{and_from, and_parts, cases_Bool, false≢true}
+use Rattle.std.proofs.lemmas.Bool.{and_from, and_parts, cases_Bool, false≢true, not_from_false, not-true}
 use Rattle.std.proofs.lemmas.Option.{same_Some}
 use Rattle.bdd_core.specs.Diagram.{Function, Valuation}
 use Rattle.bdd_core.specs.Store.{Diagrams, function_of}
@@ -52,13 +52,6 @@ bit_is false (Shows true) e = absurd (false≢true e)
 own_bit : (wanted : Bool) → is_bit wanted (Shows wanted) ≡ true
 own_bit true = refl
 own_bit false = refl
-
-not_false : (b : Bool) → b ≡ false → not b ≡ true
-not_false b e = ap not e
-
-not_true : (b : Bool) → not b ≡ true → b ≡ false
-not_true true e = absurd (false≢true e)
-not_true false e = refl
 
 -- ---- at one solution
 
@@ -168,7 +161,7 @@ module _ (c : Circuit) (phase : Phase) (observed : ℕ → Bool) (wholes : HasSo
           | inr p ↦ elim (either p) [
             | inl none ↦ false≢true (sym ((settled (p, none)).keeps f.0 v)
                 ∙ and_from (care v) (not (is_bit (wanted v) (response_by (zero v) (one v)))) met
-                (not_false (is_bit (wanted v) (response_by (zero v) (one v))) (never_then n (zero v) (one v) (always (p, none)) (wanted v) (bits f.0) f.1)))
+                (not_from_false (is_bit (wanted v) (response_by (zero v) (one v))) (never_then n (zero v) (one v) (always (p, none)) (wanted v) (bits f.0) f.1)))
             | inr driven ↦ driven_keeps n driven (wanted v) f.0 (bits f.0) f.1
           ]
         ]
@@ -192,7 +185,7 @@ module _ (c : Circuit) (phase : Phase) (observed : ℕ → Bool) (wholes : HasSo
         (p, (fights n (zero v) (one v) always).0 (and_parts (care v) (is_fight (response_by (zero v) (one v))) (sym (f.0.same v) ∙ e)).1)
     faulty_stands Unsettled at value d p f always e =
         let lost = (and_parts (care v) (not (is_bit (wanted v) (response_by (zero v) (one v)))) (sym (f.2.same v) ∙ e)).1 in
-        (f.0, never_from n (zero v) (one v) always (wanted v) (bits f.0) (not_true (is_bit (wanted v) (response_by (zero v) (one v))) lost))
+        (f.0, never_from n (zero v) (one v) always (wanted v) (bits f.0) (not-true (is_bit (wanted v) (response_by (zero v) (one v))) lost))
     faulty_stands Fight at value d p f always e = f
     faulty_stands Float at value d p f always e = f
     faulty_stands Constraint at value d p f always e = f
@@ -207,7 +200,7 @@ module _ (c : Circuit) (phase : Phase) (observed : ℕ → Bool) (wholes : HasSo
         f.0.same v ∙ and_from (care v) (is_fight (response_by (zero v) (one v))) met ((fights n (zero v) (one v) always).1 h.1)
     stands_faulty Unsettled at value d f always h =
         f.2.same v ∙ and_from (care v) (not (is_bit (wanted v) (response_by (zero v) (one v)))) met
-        (not_false (is_bit (wanted v) (response_by (zero v) (one v))) (never_then n (zero v) (one v) always (wanted v) (bits h.0) h.1))
+        (not_from_false (is_bit (wanted v) (response_by (zero v) (one v))) (never_then n (zero v) (one v) always (wanted v) (bits h.0) h.1))
     stands_faulty Fight at value d f always h = absurd f
     stands_faulty Float at value d f always h = absurd f
     stands_faulty Constraint at value d f always h = absurd f

@@ -162,12 +162,6 @@ module _ (c : Circuit) (parts : List Part) (spans : KeptSpans) (old : Diagrams) 
     shows_kept span k v zeros ones out live lt =
         ap (λ (h : ℕ). meaning new.nodes h v) (word_kept span k zeros ones out lt) ∙ w.adds.kept (word_at old span k) (live k lt) v
 
-    pub gates_word : (n : ℕ) → n < length c.nets → word_at new spans.gates n ≡ word_at old spans.gates n
-    gates_word n lt = word_kept spans.gates n has.gates_zeros has.gates_ones has.gates_out (omega (arith, lt, has.gates_len))
-
-    pub roots_word : (n : ℕ) → n < length c.nets + length (pins_of c) → word_at new spans.roots n ≡ word_at old spans.roots n
-    roots_word n lt = word_kept spans.roots n has.roots_zeros has.roots_ones has.roots_out (omega (arith, lt, has.roots_len))
-
     pub gates_shown : (n : ℕ) (v : Valuation) → n < length c.nets → shows new spans.gates n v ≡ shows old spans.gates n v
     gates_shown n v lt = shows_kept spans.gates n v has.gates_zeros has.gates_ones has.gates_out has.gates_live (omega (arith, lt, has.gates_len))
 
@@ -240,10 +234,6 @@ module _ (c : Circuit) (parts : List Part) (spans : KeptSpans) (old : Diagrams) 
   pub reach_len : (value : Bool) → (reach_span spans value).len ≡ length c.nets
   reach_len true = has.ones_len
   reach_len false = has.zeros_len
-
-  pub reach_in : (value : Bool) → IsSpan old (reach_span spans value)
-  reach_in true = has.ones_span
-  reach_in false = has.zeros_span
 
 -- ---- a part that was solved, and its words copied
 

@@ -1,13 +1,11 @@
 -- The steps of sorted keys are all parts, and all instances with a constraint, in their order.
-use Rattle.std.proofs.Common.{◌≡◌, ℕ, suc, ◌<◌, ◌≤◌, ◌⊎◌, ◌&&◌, Bool, true, false, cond, List, [], ◌∷◌, Option, get_or, length, map, arith, ap, refl, subst, sym, ◌∙◌, inl, inr}
+use Rattle.std.proofs.Common.{◌≡◌, ℕ, suc, ◌<◌, ◌⊎◌, ◌&&◌, Bool, true, false, cond, List, [], ◌∷◌, Option, get_or, length, map, arith, ap, refl, subst, sym, ◌∙◌, inl, inr}
 use Rattle.std.specs.Prelude.{◌==◌, All, bytes_eq, option_map, slice_index, unwrap_or}
 use Rattle.std.specs.List.Sorted.{IsPermutation}
 use Rattle.std.specs.Ordering.{is_lt, nat_cmp, ordering_then}
-use Rattle.std.specs.Cmp.{nat_cmp_is}
-use Rattle.std.specs.declared.cmp.Ordering.TheVariants.{Less}
-use Rattle.std.proofs.lemmas.Bool.{and_from, cases_eq, cases_lt, eq-eqb, false≢true, ne_eqb, or_left, or_right}
+use Rattle.std.proofs.lemmas.Bool.{and_from, cases_eq, eq-eqb, false≢true, ne_eqb, or_left, or_right}
 use Rattle.std.proofs.lemmas.List.Sorted.{Contains-permutation, IsPermutation-sym}
-use Rattle.std.proofs.lemmas.Map.Keys.{IsDistinct-IsPermutation, apart_from_distinct}
+use Rattle.std.proofs.lemmas.Map.Keys.{IsDistinct-IsPermutation, apart_from_distinct, ge_from_not_lt}
 use Rattle.std.proofs.lemmas.Option.{get_or_from_slice_get, same_Some, slice_get_within}
 use Rattle.channel_parts.proofs.ListLaws.{among_contains, contains_among}
 use Rattle.channel_parts.proofs.PartLaws.{not_before, sorted_at, then_then}
@@ -59,13 +57,6 @@ flips x y = ap (λ (b : Bool). b && (x.1 == y.1)) (eqb_flips x.0.1 y.0.1) ∙ ap
 abbrev IsEarlier : Key → Key → Type 0
 IsEarlier x y = (x.0.0 < y.0.0) ⊎ ((x.0.0 ≡ y.0.0) × ((x.0.1 < y.0.1) ⊎ ((x.0.1 ≡ y.0.1) × (x.1 < y.1))))
 
-not_less : (a b : ℕ) → is_lt (nat_cmp a b) ≡ false → b ≤ a
-not_less a b e =
-    elim (cases_lt a b) [
-      | inl lt ↦ absurd (false≢true (sym e ∙ sym (ap is_lt (nat_cmp_is a b Less lt))))
-      | inr ge ↦ ge
-    ]
-
 -- of two keys the first comes no later, and they are apart
 earlier_from : (x y : Key) → is_lt (order_cmp y x) ≡ false → same_key x y ≡ false → IsEarlier x y
 earlier_from x y after other =
@@ -79,7 +70,7 @@ earlier_from x y after other =
             sym tie.0,
             elim (cases_eq x.1 y.1) [
               | inl same ↦ absurd (false≢true (sym other ∙ and_from (x.0.1 == y.0.1) (x.1 == y.1) (eq-eqb x.0.1 y.0.1 (sym tie.0)) (eq-eqb x.1 y.1 same)))
-              | inr ne ↦ (let le = not_less y.1 x.1 tie.1 in omega (arith, le, ne))
+              | inr ne ↦ (let le = ge_from_not_lt y.1 x.1 tie.1 in omega (arith, le, ne))
             ],
           )
         ],

@@ -1,5 +1,5 @@
 -- The nets of a part, one after the other.
-use Rattle.std.proofs.Common.{◌≡◌, ◌≢◌, ℕ, ◌+◌, ◌*◌, ◌<◌, ◌≤◌, Bool, true, false, List, get_or, length, arith, refl, sym, subst, ◌∙◌, inl, inr}
+use Rattle.std.proofs.Common.{◌≡◌, ◌≢◌, ℕ, ◌+◌, ◌*◌, ◌<◌, ◌≤◌, Bool, true, false, List, get_or, length, arith, sym, subst, ◌∙◌, inl, inr}
 use Rattle.std.proofs.lemmas.Bool.{cases_eq}
 use Rattle.std.proofs.lemmas.Option.{slice_get-get_or}
 use Rattle.node_pool.specs.declared.region.Span.{Span}
@@ -31,13 +31,6 @@ slot_word out false i fits = omega (arith, fits)
 
 module _ (part : Part) (observed : ℕ → Bool) (care : H) (gates : Span) (out : NetWords) (once : (i j n : ℕ) → IsPlace part i n → IsPlace part j n → i ≡ j)
     (len : out.span.len ≡ net_words out.source * length part.nets) (apart : IsApart out.span gates) where
-  pub scanned_none : (d : Diagrams) → IsScannedTo part observed care gates out 0 d d
-  scanned_none d = record {
-    clear = λ i n lt p. absurd (omega (arith, lt));
-    bits = λ i n lt p. absurd (omega (arith, lt));
-    others = λ k none. refl;
-  }
-
   module _ (first old : Diagrams) (wr : Writes gates first old) (care_live : IsLive first care) (filled : IsFilled first out.span) where
     fits : (i n : ℕ) → IsPlace part i n → net_words out.source * i + net_words out.source ≤ out.span.len
     fits i n p = place_words out (length part.nets) i len (place_in part i n p)

@@ -1,27 +1,24 @@
--- The parts of a circuit, as they are listed, are steps of the search in their order; and steps in their order are so ordered
--- that what each looks at was solved before.
+-- Steps in their order are so ordered that what each looks at was solved before.
 use Rattle.std.proofs.Common.{◌≡◌, ℕ, zero, suc, ◌<◌, ◌≤◌, ◌&&◌, Bool, true, false, List, [], ◌∷◌, Option, ap, arith, inl, inr, refl, subst, sym, ◌∙◌}
-use Rattle.std.specs.Prelude.{map, nat_eq, nat_lt, option_map, slice_get, unwrap_or}
+use Rattle.std.specs.Prelude.{nat_eq, nat_lt, option_map, slice_get, unwrap_or}
 use Rattle.std.proofs.lemmas.Bool.{and_parts, cases_eq, cases_lt, eqb-true, false≢true, ltb-true, or_cases}
 use Rattle.std.proofs.lemmas.Option.{same_Some, slice_get_within}
-use Rattle.channel_parts.specs.PartLists.{AreParts, IsBefore, least_of, net_numbers}
+use Rattle.channel_parts.specs.PartLists.{AreParts, least_of, net_numbers}
 use Rattle.channel_parts.specs.declared.part.Part.{Part}
 use Rattle.channel_parts.specs.declared.part.Parts.{Parts}
 use Rattle.circuit_faults.proofs.CircuitLaws.{step_is}
 use Rattle.circuit_faults.proofs.DrivenAlone.{driven_alone}
-use Rattle.circuit_faults.proofs.OrderLaws.{is_least}
 use Rattle.circuit_faults.proofs.WholeParts.{device_in, inside_number, number_inside, whole_part, together}
 use Rattle.circuit_faults.specs.Scans.{IsInside}
 use Rattle.circuit_faults.specs.Steps.{AreOrderedSteps, InPhase, IsInStepBefore, IsInstanceAt, IsPartAt, IsThere, in_comparison, named_at, part_step, step_of, steps_of}
 use Rattle.circuit_faults.specs.declared.steps.CircuitStep.{CircuitStep}
 use Rattle.circuit_faults.specs.declared.steps.CircuitStep.TheVariants.{Part as PartStep, Instance as InstanceStep}
-use Rattle.fault_places.proofs.StepOrder.{step_order}
-use Rattle.fault_places.specs.PhaseSpots.{AreSteps, IsRising, IsStepBefore, Step, OfInstance, OfPart, step_key, step_rank}
+use Rattle.fault_places.specs.PhaseSpots.{AreSteps, Step, OfInstance, OfPart, step_key, step_rank}
 use Rattle.path_fixpoint.specs.Parts.{part_devices}
-use Rattle.vrt_model.proofs.Lists.{at_map, at_there, map_among, map_at}
-use Rattle.vrt_model.proofs.Members.{among_map, at_none}
+use Rattle.vrt_model.proofs.Lists.{at_map, at_there, map_at}
+use Rattle.vrt_model.proofs.Members.{at_none}
 use Rattle.vrt_model.specs.Comparison.{Comparison, cell_at, phase_at}
-use Rattle.vrt_model.specs.Known.{HasGateArc, HasWholeArc, IsLeastOfPart, IsPlain, IsRanking, IsUnknown}
+use Rattle.vrt_model.specs.Known.{HasGateArc, HasWholeArc, IsPlain, IsRanking, IsUnknown}
 use Rattle.vrt_model.specs.Determined.{IsLinkedTo}
 use Rattle.vrt_model.specs.State.{OutputPin, output_pins}
 use Rattle.vrt_model.specs.declared.ids.Net.{Net}
@@ -33,56 +30,6 @@ use Rattle.vrt_model.specs.Networks.{HasRanges}
 use Rattle.vrt_model.specs.Places.{comes_before, greatest_rank, is_named, named_nets, named_nets_from, of_instance, of_net}
 use Rattle.vrt_model.specs.declared.circuit.Device.{Device}
 use Rattle.vrt_model.specs.declared.circuit.FlatInstance.{FlatInstance}
-
-module _ (k : Comparison) (phase : ℕ) (rank : ℕ → ℕ) (parts : Parts) (ranges : HasRanges k.circuit) (are : AreParts k.circuit (phase_at k.rules phase) true rank parts) where
-  abbrev steps : List Step
-  steps = map part_step parts.list
-
-  -- ---- their order
-
-  rank_is : (part : Part) → Among parts.list part → part.rank ≡ rank (least_of part)
-  rank_is part m = let of = are.each part m in of.ranked (least_of part) (0, of.first)
-
-  parts_before : (p q : Part) → Among parts.list p → Among parts.list q → IsBefore p q → IsStepBefore k phase rank (part_step p) (part_step q)
-  parts_before p q m n (inl lt) = inl (omega (arith, lt, rank_is p m, rank_is q n))
-  parts_before p q m n (inr same) = inr ((let e = same.0 in omega (arith, e, rank_is p m, rank_is q n)), same.1)
-
-  in_order : (i j : ℕ) (x y : Step) → At steps i x → At steps j y → i < j → IsStepBefore k phase rank x y
-  in_order i j x y a b lt =
-      let p = at_map part_step parts.list i x a in
-      let q = at_map part_step parts.list j y b in
-      subst (λ (s : Step). IsStepBefore k phase rank s y) p.2
-      (subst (λ (s : Step). IsStepBefore k phase rank (part_step p.0) s) q.2 (parts_before p.0 q.0 (i, p.1) (j, q.1) (are.sorted i j p.0 q.0 p.1 q.1 lt)))
-
-  -- ---- their nets
-
-  abbrev Rises : Step → Type 0
-  Rises (OfPart first nets) = IsRising nets
-  Rises (OfInstance at) = Unit {0}
-
-  abbrev HasLeast : Step → Type 0
-  HasLeast (OfPart first nets) = (n : ℕ) → Among nets n → IsLeastOfPart k.circuit (phase_at k.rules phase) n first
-  HasLeast (OfInstance at) = Unit {0}
-
-  rises : (x : Step) → Among steps x → Rises x
-  rises x m = let from = among_map part_step parts.list x m in subst Rises from.2 (are.each from.0 from.1).net_order
-
-  has_least : (x : Step) → Among steps x → HasLeast x
-  has_least x m =
-      let from = among_map part_step parts.list x m in
-      subst HasLeast from.2 (λ n i. is_least k.circuit (phase_at k.rules phase) rank ranges from.0 (are.each from.0 from.1) n (number_inside from.0 n i))
-
-  -- in a circuit without instances they are all
-  pub part_steps : ((at : ℕ) (i : FlatInstance) → At k.circuit.instances at i → ⊥) → AreSteps k phase rank steps
-  part_steps none = record {
-    sorted = step_order k phase rank steps in_order;
-    rising = λ first nets m. rises (OfPart first nets) m;
-    leasts = λ first nets n m i. has_least (OfPart first nets) m n i;
-    parts = λ n p. (let there = are.all n p in (least_of there.0, net_numbers there.0.nets, map_among part_step parts.list there.0 there.1, there.2));
-    instances = λ at i there has. absurd (none at i there);
-  }
-
--- ---- what each step looks at was solved before
 
 -- the greatest rank is at least that of each
 below_greatest : (rank : ℕ → ℕ) (ns : List ℕ) (n : ℕ) → Among ns n → rank n ≤ greatest_rank rank ns

@@ -58,11 +58,6 @@ module _ (c : Circuit) (roots : Span) where
   pub net_beside : (n : ℕ) → n < length c.nets → IsBeside (output_span c roots) (roots.start + n)
   net_beside n lt = inl (omega (arith, lt))
 
-  -- what is apart from the roots is apart from them
-  pub outputs_apart : (span : Span) → length c.nets + length (output_pins c) ≤ roots.len → IsApart roots span → IsApart (output_span c roots) span
-  outputs_apart span fits (inl low) = inl (omega (arith, low, fits))
-  outputs_apart span fits (inr high) = inr (omega (arith, high))
-
   pub apart_outputs : (span : Span) → length c.nets + length (output_pins c) ≤ roots.len → IsApart roots span → IsApart span (output_span c roots)
   apart_outputs span fits (inl low) = inr (omega (arith, low, fits))
   apart_outputs span fits (inr high) = inl (omega (arith, high))
@@ -73,9 +68,6 @@ module _ (c : Circuit) (roots : Span) where
 
   pub output_root : (d : Diagrams) (at : ℕ) (v : Valuation) → shows d (output_span c roots) at v ≡ root_at d roots v (length c.nets + at)
   output_root d at v = ap (λ (h : ℕ). meaning d.nodes h v) (output_word d at)
-
-  pub outputs_span : (d : Diagrams) → length c.nets + length (output_pins c) ≤ roots.len → IsSpan d roots → IsSpan d (output_span c roots)
-  outputs_span d fits is = (let low = is.0 in omega (arith, low), let end = is.1 in omega (arith, end, fits))
 
   pub outputs_filled : (d : Diagrams) → length c.nets + length (output_pins c) ≤ roots.len → IsFilled d roots → IsFilled d (output_span c roots)
   outputs_filled d fits live k lt = (let there = live (length c.nets + k) (omega (arith, lt, fits)) in let same = output_word d k in omega (arith, there, same))

@@ -19,10 +19,6 @@ use Rattle.written_models.proofs.NodeOrder.{nodes_are_ordered, there_more}
 use Rattle.written_models.specs.Functions.{Function, Node, branch_of, fixed, is_node, number_of, place_where}
 use Rattle.written_models.specs.NodeLaws.{is_there}
 
-picked : (b : Bool) → b ≡ cond b true false
-picked true = refl
-picked false = refl
-
 either : (b : Bool) → true ≡ cond b true true
 either true = refl
 either false = refl

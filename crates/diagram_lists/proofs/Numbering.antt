@@ -1,9 +1,8 @@
 -- A list with the numbers of its nodes: at first, and with one node more.
-use Rattle.std.proofs.Common.{◌≡◌, ℕ, zero, suc, ◌+◌, ◌-◌, ◌^◌, ◌<◌, ◌≤◌, ◌≢◌, List, [], ◌∷◌, length, get_or, replicate, refl, sym, ap, ◌∙◌, subst, inl, inr, arith}
-use Rattle.std.proofs.Math.ListN.{set}
+use Rattle.std.proofs.Common.{◌≡◌, ℕ, ◌+◌, ◌-◌, ◌<◌, ◌≤◌, ◌≢◌, List, [], ◌∷◌, length, get_or, sym, ap, ◌∙◌, subst, inl, inr, arith}
 use Rattle.std.proofs.lemmas.Bool.{cases_eq}
-use Rattle.std.proofs.lemmas.List.{get_or-set_other, get_or-set_same, length-replicate, length-set}
-use Rattle.std.proofs.lemmas.Option.{none-some, slice_get-get_or}
+use Rattle.std.proofs.lemmas.List.{get_or-set_other, get_or-set_same, length-set}
+use Rattle.std.proofs.lemmas.Option.{slice_get-get_or}
 use Rattle.bdd_core.proofs.Pigeon.{pigeon}
 use Rattle.bdd_core.specs.declared.handle.H.{H}
 use Rattle.diagram_lists.specs.Listed.{number_at}
@@ -26,26 +25,6 @@ few_nodes count list s =
     let q = s.listed j (get_or hs j none) (at j lt') in
     let e : (get_or hs i none).0 ≡ (get_or hs j none).0 = omega (arith, p.0, q.0, same) in omega (arith, p.2, q.2, ap (number_at list) e)) in
     omega (arith, fewer, s.some)
-
--- no node
-pub numbered_first : (count : ℕ) (list : NodeList) → 2 ≤ count → count < 2 ^ 32 → list.nodes.items ≡ [] → list.numbers.items ≡ set (replicate count 0) 1 1 → IsNumbered count list
-numbered_first count list some few none numbers =
-    let len : length {A = ℕ} (replicate count 0) ≡ count = length-replicate count 0 in
-    let other : (k : ℕ) → k ≢ 1 → number_at list k ≡ 0 = λ k apart. ap (λ (xs : List ℕ). get_or xs k 0) numbers ∙ get_or-set_other (replicate count 0) 1 k 1 0 apart ∙ zero_at count k in
-    record {
-      places = ap (λ (xs : List ℕ). length xs) numbers ∙ length-set (replicate count 0) 1 1 ∙ len;
-      some = some;
-      few = few;
-      nought = other 0 (omega arith);
-      one = ap (λ (xs : List ℕ). get_or xs 1 0) numbers ∙ get_or-set_same (replicate count 0) 1 1 0 (omega (arith, len, some));
-      listed = λ i h at. absurd (none-some h (subst (λ (hs : List H). At hs i h) none at));
-      others = λ k high some_number. absurd (some_number (other k (omega (arith, high))));
-    }
-  where
-    zero_at : (n k : ℕ) → get_or {A = ℕ} (replicate n 0) k 0 ≡ 0
-    zero_at zero k = refl
-    zero_at (suc n) zero = refl
-    zero_at (suc n) (suc k) = zero_at n k
 
 -- one node more, with the next number
 pub numbered_more : (count : ℕ) (f : H) (old new : NodeList) → IsNumbered count old → 2 ≤ f.0 → f.0 < count → number_at old f.0 ≡ 0 → HasAdded f old new → IsNumbered count new

@@ -37,9 +37,6 @@ first_bit t b bits x le = elim (cases_eq x t) [
   | inr other ↦ (let e : x - t ≡ suc (x - suc t) = omega (arith, le, other) in ap (bit_at (b ∷ bits)) e ∙ sym (with_bit_other (bits_from (suc t) bits) t x b other))
 ]
 
-either_constant : (i : ℕ) → i < 2 → i ≢ 0 → i ≡ 1
-either_constant i low other = omega (arith, low, other)
-
 -- the function of a place, of the bits of the variables from one on
 abbrev pub from : List DiagramNode → ℕ → ℕ → Function
 from ns k i = λ bits. meaning ns i (bits_from k bits)

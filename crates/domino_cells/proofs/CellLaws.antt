@@ -6,7 +6,7 @@ use Rattle.cell_compare.specs.Cells.{IsFlattenedTo}
 use Rattle.cell_room.specs.Compared.{IsFlattened, comparison}
 use Rattle.cell_room.specs.Flat.{Flattened}
 use Rattle.domino_cells.specs.Cells.{IsEqualIn}
-use Rattle.domino_order.specs.Arrivals.{AreRising, ArrivalTells}
+use Rattle.domino_order.specs.Arrivals.{ArrivalTells}
 use Rattle.domino_order.specs.declared.arrival.Arrival.{Arrival}
 use Rattle.vrt_model.specs.Comparison.{Comparison}
 use Rattle.vrt_model.specs.Equal.{IsPhaseEqual}
@@ -35,9 +35,6 @@ module _ (design : Design) (blif : Blif) (rules : Rules) (cell : ℕ) (f : Flatt
 
   pub made_equal : (phase n : ℕ) → IsEqualIn design blif rules cell n → IsPhaseEqual (comparison_of design blif rules cell n) phase → IsPhaseEqual (comparison design rules cell f) phase
   made_equal phase n is equal = subst (λ (k : Comparison). IsPhaseEqual k phase) (sym (same n is)) equal
-
-  pub made_rising : (rising : List ℕ) (n : ℕ) → IsEqualIn design blif rules cell n → AreRising (comparison_of design blif rules cell n) rising → AreRising (comparison design rules cell f) rising
-  made_rising rising n is are = subst (λ (k : Comparison). AreRising k rising) (sym (same n is)) are
 
   pub tells_of : (budget phase : ℕ) (rising : List ℕ) (result : Result Arrival NoMemory) → IfOk result (λ a. (any : Blif) → ArrivalTells (comparison design rules cell f) any budget phase rising a)
       → IfOk result (λ a. (n : ℕ) → IsEqualIn design blif rules cell n → ArrivalTells (comparison_of design blif rules cell n) blif budget phase rising a)

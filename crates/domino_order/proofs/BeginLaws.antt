@@ -170,10 +170,6 @@ module _ (s : Asked) (is : IsAsked s) (n : ℕ) (listed : has_number s.rising.ne
           ∙ ap (λ (t : Bool). cond t (risen m) (bits_of end (variable_at c m))) there)
           ∙ arrived_once nets (drop count bits) is.once (arrivals_len k phase nets n bits at)
 
-  -- a bound of as many bits as a step has
-  bound_len : (bits : List Bool) → IsStepAt k phase nets n bits → length bits ≡ count + length nets
-  bound_len bits at = bits_len k phase nets n bits at
-
   pub all_begin : (bound : Option Found) (ends : Function) → ((xs : List Bool) → ends (bits_of xs) ≡ is_end s n bound xs) → IsBound k phase nets n bound → (bits : List Bool) → IsStepAt k phase nets n bits
       → is_below bound bits ≡ true → reached_of order arrivals bound ends (begun_at k phase nets bits) ≡ true
   all_begin None ends ends_are bounded bits at below =

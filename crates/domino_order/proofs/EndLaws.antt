@@ -1,5 +1,5 @@
 -- Functions of the ends and the beginnings of steps, operation after operation.
-use Rattle.std.proofs.Common.{◌≡◌, ℕ, ◌+◌, ◌*◌, ◌<◌, ◌≤◌, ◌&&◌, ◌||◌, Bool, true, false, cond, List, Option, Some, None, Result, Ok, Err, ap, ap₂, arith, drop, length, refl, subst, sym, take, ◌∙◌}
+use Rattle.std.proofs.Common.{◌≡◌, ℕ, ◌+◌, ◌*◌, ◌<◌, ◌≤◌, ◌&&◌, ◌||◌, Bool, true, false, cond, List, Option, Some, Result, Ok, Err, ap, ap₂, arith, drop, length, refl, subst, sym, take, ◌∙◌}
 use Rattle.std.proofs.Math.Path.{fun_ext}
 use Rattle.node_pool.specs.declared.region.Span.{Span}
 use Rattle.bdd_core.proofs.Frames.{gives_made, gives_next, nodes_then, word_added}
@@ -14,7 +14,7 @@ use Rattle.bdd_ops.proofs.WithinLaws.{within_and, within_choice, within_or}
 use Rattle.bdd_ops.specs.Counting.{Counts, IsCounted}
 use Rattle.bdd_ops.specs.Ops.{and_of, or_of}
 use Rattle.domino_order.proofs.StepFound.{counts_both, same_vars}
-use Rattle.domino_order.specs.Beginnings.{beside_of, begins_of, ends_of, high_ends_of, near_of, reached_of}
+use Rattle.domino_order.specs.Beginnings.{beside_of, begins_of, high_ends_of, near_of, reached_of}
 use Rattle.step_roots.proofs.CareCounts.{later_within}
 use Rattle.step_roots.specs.Bits.{compares}
 use Rattle.step_roots.specs.Moved.{moved_of}
@@ -54,24 +54,6 @@ pub high_gives : (old new : Diagrams) (net : ℕ) (care high : H) (given : Span)
 high_gives old new net care high given r read made =
     gives_made old new (and_of (function_of old care) (function_of old high)) (high_ends_of old net given (function_of old care)) r
     (λ v. ap (λ (h : ℕ). function_of old care v && meaning old.nodes h v) read) made
-
--- without a bound
-pub all_ends : (old new : Diagrams) (net : ℕ) (given : Span) (order : List ℕ) (care : Function) (r : Result H Spent) → Gives old new (high_ends_of old net given care) r
-    → Gives old new (ends_of old net given order None care) r
-all_ends old new net given order care (Ok x) gives = record { adds = gives.adds; ok = record { live = gives.ok.live; same = λ v. gives.ok.same v ∙ and_true (high_ends_of old net given care v) }; spent = tt }
-  where
-    and_true : (a : Bool) → a ≡ a && true
-    and_true true = refl
-    and_true false = refl
-all_ends old new net given order care (Err e) gives = record { adds = gives.adds; ok = tt; spent = gives.spent }
-
-pub all_reached : (old new : Diagrams) (order arrivals : List ℕ) (ends : Function) (r : Result H Spent) → Gives old new (moved_of arrivals true ends) r → Gives old new (reached_of order arrivals None ends) r
-all_reached old new order arrivals ends (Ok x) gives = record { adds = gives.adds; ok = record { live = gives.ok.live; same = λ v. gives.ok.same v ∙ or_false (moved_of arrivals true ends v) }; spent = tt }
-  where
-    or_false : (a : Bool) → a ≡ a || false
-    or_false true = refl
-    or_false false = refl
-all_reached old new order arrivals ends (Err e) gives = record { adds = gives.adds; ok = tt; spent = gives.spent }
 
 -- the net has not risen
 pub begins_gives : (old mid new : Diagrams) (net : ℕ) (given : Span) (order arrivals : List ℕ) (bound : Option Found) (ends : Function) (all risen : H) (r : Result H Spent) → IsFilled old given → net < given.len
@@ -180,11 +162,3 @@ pub reached_gives : (o : Option Found) (b : Found) (order arrivals : List ℕ) (
 reached_gives o b order arrivals ends old m1 m2 new from beside r is one two made =
     subst (λ (x : Option Found). Gives old new (reached_of order arrivals x ends) r) (sym is)
     (pair_gives (λ (x y : Bool). x || y) old m1 m2 new (moved_of arrivals true ends) (beside_of order arrivals b.bits) from beside r one two (or_gives m2 new from beside r made))
-
--- ends that come before those of the bound
-pub ends_give : (o : Option Found) (b : Found) (net : ℕ) (given : Span) (order : List ℕ) (care : Function) (old mid new : Diagrams) (high : H) (r : Result H Spent) → o ≡ Some b → Gives old mid (high_ends_of old net given care) (Ok high)
-    → Gives mid new (λ w. function_of mid high w && compares true order (take (length order) b.bits) w) r → Gives old new (ends_of old net given order o care) r
-ends_give o b net given order care old mid new high r is one two =
-    subst (λ (x : Option Found). Gives old new (ends_of old net given order x care) r) (sym is)
-    (gives_next old mid new (high_ends_of old net given care) (λ w. function_of mid high w && compares true order (take (length order) b.bits) w) (ends_of old net given order (Some b) care) high r one two
-    (λ w. ap (λ (x : Bool). x && compares true order (take (length order) b.bits) w) (one.ok.same w)))

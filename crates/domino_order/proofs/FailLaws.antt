@@ -1,11 +1,10 @@
 -- From where steps begin that fail to the bits of one.
-use Rattle.std.proofs.Common.{◌≡◌, ◌≢◌, ℕ, ◌<◌, ◌≤◌, ◌++◌, ◌⊎◌, All, Bool, true, false, List, Option, Result, Ok, Err, ap, arith, length, map, subst, sym, ◌∙◌, inl, inr}
+use Rattle.std.proofs.Common.{◌≡◌, ◌≢◌, ℕ, ◌<◌, ◌++◌, ◌⊎◌, All, Bool, true, false, List, Option, Result, Ok, Err, ap, arith, length, map, subst, sym, ◌∙◌, inl, inr}
 use Rattle.std.specs.Prelude.{◌↔◌, IfOk, IsTrue}
 use Rattle.std.proofs.lemmas.Bool.{cases_eq, false≢true}
 use Rattle.node_pool.specs.declared.region.Span.{Span}
-use Rattle.bdd_core.proofs.Frames.{adds_words}
 use Rattle.bdd_core.specs.Diagram.{Function, Valuation}
-use Rattle.bdd_core.specs.Store.{AddsNodes, Diagrams, Gives, function_of}
+use Rattle.bdd_core.specs.Store.{Diagrams, Gives, function_of}
 use Rattle.bdd_core.specs.declared.handle.H.{H}
 use Rattle.bdd_core.specs.declared.handle.Spent.{Spent}
 use Rattle.bdd_ops.specs.Counting.{Counts}
@@ -20,45 +19,10 @@ use Rattle.domino_order.specs.Runs.{EndIs, FailsSomewhere, IsAsked, IsBound, IsL
 use Rattle.domino_order.specs.declared.found.NetFound.TheVariants.{Fails}
 use Rattle.domino_order.specs.declared.prepared.Asked.{Asked}
 use Rattle.domino_order.specs.declared.runs.Looked.{Looked}
-use Rattle.phase_check.specs.States.{KeepsRoom}
 use Rattle.phase_terms.specs.Stores.{IsUsed}
 use Rattle.vrt_model.specs.Lists.{has_number}
 use Rattle.vrt_model.specs.declared.NoMemory.{NoMemory}
 use Rattle.vrt_model.specs.declared.groups.Valuation.{Valuation as Found}
-
--- ---- the room
-
-pub room_words : (old new : Diagrams) → new ≡ record old { words = new.words } → length new.words ≡ length old.words → 2 ≤ length old.nodes → KeepsRoom old new
-room_words old new same len two = record {
-  budget = ap (λ (d : Diagrams). d.budget) same;
-  vars = ap (λ (d : Diagrams). d.vars) same;
-  own = ap (λ (d : Diagrams). d.own) same;
-  room = ap (λ (d : Diagrams). d.word_room) same;
-  nodes = (let nodes : length new.nodes ≡ length old.nodes = ap (λ (d : Diagrams). length d.nodes) same in omega (arith, nodes, two));
-  words = omega (arith, len);
-}
-
-pub room_added : (old new : Diagrams) → AddsNodes old new → 2 ≤ length old.nodes → KeepsRoom old new
-room_added old new adds two = record {
-  budget = ap (λ (d : Diagrams). d.budget) adds.rest;
-  vars = ap (λ (d : Diagrams). d.vars) adds.rest;
-  own = ap (λ (d : Diagrams). d.own) adds.rest;
-  room = ap (λ (d : Diagrams). d.word_room) adds.rest;
-  nodes = (let longer = adds.longer in omega (arith, longer, two));
-  words = (let same : length new.words ≡ length old.words = ap (λ (ws : List ℕ). length ws) (adds_words old new old.words adds) in omega (arith, same));
-}
-
-pub room_then : (a b c : Diagrams) → KeepsRoom a b → KeepsRoom b c → KeepsRoom a c
-room_then a b c f s = record {
-  budget = s.budget ∙ f.budget;
-  vars = s.vars ∙ f.vars;
-  own = s.own ∙ f.own;
-  room = s.room ∙ f.room;
-  nodes = s.nodes;
-  words = (let one = f.words in let two = s.words in omega (arith, one, two));
-}
-
--- ---- the bits of an end
 
 -- those of the least, where the handle is not that of the constant 0
 pub least_end : (old new : Diagrams) (near : H) (words : Span) (count : ℕ) (bound : Option Found) (r : Result (List Bool) NoMemory) → words.len ≡ old.vars

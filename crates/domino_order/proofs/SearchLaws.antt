@@ -1,18 +1,15 @@
 -- Answer after answer: each comes before the last, and below the last there is none.
-use Rattle.std.proofs.Common.{◌≡◌, ℕ, suc, ◌+◌, ◌*◌, ◌^◌, ◌<◌, Bool, true, false, List, [], ◌∷◌, Option, Some, None, ap, arith, length, refl, subst, sym, take, ◌∙◌, inl, inr}
+use Rattle.std.proofs.Common.{◌≡◌, ℕ, suc, ◌+◌, ◌*◌, ◌^◌, ◌<◌, Bool, true, false, List, [], ◌∷◌, Option, Some, None, ap, arith, length, refl, subst, sym, ◌∙◌, inl, inr}
 use Rattle.std.proofs.Math.Nat.{pow-succ'}
 use Rattle.std.proofs.lemmas.Bool.{cases_Bool, false≢true}
-use Rattle.std.proofs.lemmas.List.{length-take-le}
 use Rattle.arrival_laws.specs.Steps.{StepHolds}
-use Rattle.bdd_core.specs.Store.{Diagrams}
 use Rattle.domino_order.proofs.StepGives.{arrivals_is, bits_len, end_is}
-use Rattle.domino_order.specs.Runs.{IsBound, IsRoomFor, RunGives, is_below, of_asked}
-use Rattle.domino_order.specs.Searches.{FoundIs, HasRoom, NetGives}
+use Rattle.domino_order.specs.Runs.{IsBound, RunGives, is_below, of_asked}
+use Rattle.domino_order.specs.Searches.{FoundIs, NetGives}
 use Rattle.domino_order.specs.StepBits.{FailsAt, HoldsAt, arrived, rise_to}
 use Rattle.domino_order.specs.declared.prepared.Asked.{Asked}
 use Rattle.domino_order.specs.declared.found.NetFound.{NetFound}
 use Rattle.domino_order.specs.declared.found.NetFound.TheVariants.{Holds}
-use Rattle.phase_check.specs.States.{KeepsRoom}
 use Rattle.vrt_model.specs.Comparison.{Comparison}
 use Rattle.vrt_model.specs.Held.{sources_of}
 use Rattle.vrt_model.specs.Variables.{is_less}
@@ -94,27 +91,3 @@ net_gives s n budget (Some last) found is fails none = subst (NetGives s n budge
     | inr e ↦ e
   ];
 })
-
--- ---- the store
-
--- with all left it is as a run wants it
-pub room_for : (s : Asked) (old new : Diagrams) → HasRoom s old → new ≡ record old { nodes = take 2 old.nodes; words = take old.own old.words } → IsRoomFor s new
-room_for s old new room left =
-    let own : new.own ≡ old.own = ap (λ (d : Diagrams). d.own) left in
-    let words : length new.words ≡ old.own = ap (λ (d : Diagrams). length d.words) left ∙ length-take-le old.own old.words room.own in
-    record {
-      vars = ap (λ (d : Diagrams). d.vars) left ∙ room.vars;
-      count = ap (λ (d : Diagrams). length d.nodes) left ∙ length-take-le 2 old.nodes room.nodes;
-      budget = (let same : new.budget ≡ old.budget = ap (λ (d : Diagrams). d.budget) left in let least = room.budget in omega (arith, same, least));
-      own = omega (arith, own, words);
-      room = (let same : new.word_room ≡ old.word_room = ap (λ (d : Diagrams). d.word_room) left in let fits = room.room in omega (arith, same, words, fits));
-    }
-
-pub room_kept : (s : Asked) (old new : Diagrams) → IsRoomFor s old → KeepsRoom old new → HasRoom s new
-room_kept s old new room keeps = record {
-  vars = keeps.vars ∙ room.vars;
-  nodes = keeps.nodes;
-  budget = (let same = keeps.budget in let least = room.budget in omega (arith, same, least));
-  own = (let same = keeps.own in let longer = keeps.words in let own = room.own in omega (arith, same, longer, own));
-  room = (let a = keeps.own in let b = keeps.room in let own = room.own in let fits = room.room in omega (arith, a, b, own, fits));
-}

@@ -30,10 +30,6 @@ module _ (c : Circuit) (nets : List ℕ) (inputs : AreInputs c nets) where
   pub plain_stays : (n : ℕ) → has_number nets n ≡ true → ¬ IsPlain c n
   plain_stays n e = (let net = inputs n e in input_not_plain c n net.0 net.1 net.2)
 
-  -- a plain net does not rise
-  pub plain_other : (n : ℕ) → IsPlain c n → has_number nets n ≡ false
-  plain_other n plain = elim (cases_Bool (has_number nets n)) [ inl e ↦ absurd (plain_stays n e plain) | inr e ↦ e ]
-
   -- nor does one whose bit is fixed
   pub fixed_other : (phase : Phase) (n : ℕ) (v : Bool) → IsFixed c phase n v → has_number nets n ≡ false
   fixed_other phase n v fixed =

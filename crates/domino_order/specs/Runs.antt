@@ -8,7 +8,7 @@ use Rattle.bdd_ops.specs.Ops.{bits_in, bits_of}
 use Rattle.circuit_faults.specs.Faults.{IsSettingAt}
 use Rattle.circuit_faults.specs.Results.{root_at}
 use Rattle.domino_order.specs.Beginnings.{ends_below, reached_of}
-use Rattle.domino_order.specs.StepBits.{AllHoldAt, FailsAt, HoldsAt, IsStepAt}
+use Rattle.domino_order.specs.StepBits.{FailsAt, HoldsAt, IsStepAt}
 use Rattle.domino_order.specs.StepSettings.{GivesSettings, at_begun, start_at}
 use Rattle.domino_order.specs.StepWords.{HasStepHandles, IsRising, of_rising, step_operations}
 use Rattle.domino_order.specs.declared.found.NetFound.{NetFound}
@@ -167,9 +167,3 @@ first_bits count (Some bound) = take count bound.bits
 -- at these bits the function is 1, or it is 0 everywhere and they are those of the bound
 abbrev pub EndIs : Diagrams → H → ℕ → Option Found → List Bool → Type 0
 EndIs d near count bound xs = ((at_bits d near xs ≡ true) × (length xs ≡ d.vars)) ⊎ ((near.0 ≡ 0) × (xs ≡ first_bits count bound))
-
--- each step of the net holds; or the least bits at which one fails
-abbrev pub PortGives : Comparison → ℕ → List ℕ → ℕ → Option Found → Type 0
-PortGives k phase nets n None = AllHoldAt k phase nets n
-PortGives k phase nets n (Some least) =
-    FailsAt k phase nets n least.bits × ((bits : List Bool) → FailsAt k phase nets n bits → is_less bits least.bits ≡ false)

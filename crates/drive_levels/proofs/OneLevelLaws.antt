@@ -7,7 +7,6 @@ use Rattle.bdd_core.specs.Diagram.{Valuation}
 use Rattle.bdd_core.specs.Store.{Diagrams, function_of}
 use Rattle.bdd_core.specs.Words.{shows}
 use Rattle.bdd_core.specs.declared.handle.H.{H}
-use Rattle.cell_inside.proofs.NetKinds.{plain_not_given}
 use Rattle.drive_levels.proofs.CaseLevels.{given_level}
 use Rattle.drive_levels.proofs.NetLevelLaws.{same_as_itself}
 use Rattle.drive_levels.specs.NetLevels.{HasLevelIn, IsSolvedPhase, NetGives, level_by, same_level}
@@ -18,6 +17,7 @@ use Rattle.output_levels.specs.PartLevels.{level_at}
 use Rattle.vrt_model.proofs.Filtered.{among_devices, device_among}
 use Rattle.vrt_model.proofs.GatesGiven.{IsGiven}
 use Rattle.vrt_model.proofs.Members.{all_among}
+use Rattle.vrt_model.proofs.Ranked.{plain_not_given}
 use Rattle.vrt_model.proofs.SameNetwork.{IsPartOf, path_more}
 use Rattle.vrt_model.specs.Circuits.{IsDevice}
 use Rattle.vrt_model.specs.Known.{IsPlain, is_plain_at}
@@ -77,7 +77,7 @@ module _ (c : Circuit) (ranges : HasRanges c) (level : ℕ) (one : HasOneLevel c
 
   -- so that is its level where it ends at a net that is not given
   plain_level : (n : ℕ) → IsPlain c n → (root : Root) (hops : List Hop) → IsPath w root hops → end_of root hops ≡ n → level_of root hops ≡ level
-  plain_level n plain root [] path ends = (let g = (root_given root path).0 in absurd (plain_not_given c n g.0 plain (subst (λ (m : ℕ). At c.nets m g.0) ends g.1) g.2))
+  plain_level n plain root [] path ends = (let g = (root_given root path).0 in absurd (plain_not_given c n plain (g.0, subst (λ (m : ℕ). At c.nets m g.0) ends g.1, g.2)))
   plain_level n plain root (hop ∷ hops) path ends = path_level root hop hops path
 
   plain_strength : (n : ℕ) → IsPlain c n → (root : Root) (hops : List Hop) → IsPath w root hops → end_of root hops ≡ n → IsStrength w n level

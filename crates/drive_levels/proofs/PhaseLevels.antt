@@ -4,15 +4,10 @@ use Rattle.std.proofs.lemmas.Option.{none-some, same_Some}
 use Rattle.bdd_core.specs.Diagram.{Valuation}
 use Rattle.bdd_core.specs.Store.{Diagrams, function_of}
 use Rattle.bdd_core.specs.declared.handle.H.{H}
-use Rattle.channel_parts.specs.Orders.{IsSolvedOnce}
 use Rattle.channel_parts.specs.PartLists.{AreParts, IsPartList}
 use Rattle.channel_parts.specs.declared.part.Part.{Part}
 use Rattle.channel_parts.specs.declared.part.Parts.{Parts}
 use Rattle.circuit_faults.proofs.WholeParts.{is_part, number_inside}
-use Rattle.circuit_faults.specs.Faults.{HasFixedBits, IsSettingAt}
-use Rattle.circuit_faults.specs.KeptFaults.{AreKeptObserved}
-use Rattle.circuit_faults.specs.Results.{IsClearCircuit, root_at}
-use Rattle.circuit_faults.specs.Wholes.{HasSoundWholes}
 use Rattle.drive_levels.proofs.NetLevelLaws.{one_level_in}
 use Rattle.drive_levels.specs.NetLevels.{ArePartsOf, HasLevelIn, IsSolvedPhase, NetGives}
 use Rattle.drive_levels.specs.PhaseLevels.{HasLevelAt, IsLevelAt}
@@ -46,21 +41,6 @@ listed_parts c phase false parts is = parts_of c phase false (λ n. 0) parts is
 -- are parts of the circuit
 pub listed_are_parts : (c : Circuit) (phase : Phase) (which : Bool) (parts : List Part) → HasRanges c → ArePartsOf c phase which parts → (part : Part) → Among parts part → IsPart c part
 listed_are_parts c phase which parts ranges are part m = is_part c phase which are.rank ranges part (are.each part m)
-
--- and a clear circuit, with its bits in the handles, is a solved phase
-pub clear_phase : (c : Circuit) (phase : Phase) (observed : ℕ → Bool) (setting : Valuation → Setting) (care : H) (roots gates : Span) (d : Diagrams)
-    → HasSoundWholes c phase observed → AreKeptObserved c observed → ((v : Valuation) → HasFixedBits c phase (root_at d roots v)) → ((v : Valuation) → IsSettingAt c (root_at d roots v) (setting v))
-    → IsSolvedOnce c phase → IsClearCircuit c phase observed care roots gates d d → (v : Valuation) → function_of d care v ≡ true
-    → IsSolvedPhase c phase observed setting care roots gates d
-clear_phase c phase observed setting care roots gates d wholes seen fixed given once clear v here = record {
-  wholes = wholes;
-  seen = seen;
-  fixed = fixed;
-  given = given;
-  once = once;
-  bits = λ w a met solves. clear.bits w (setting w) a met (record { given = given w; solves = solves });
-  some = (v, here);
-}
 
 -- ---- its levels
 

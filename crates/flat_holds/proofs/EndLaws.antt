@@ -2,7 +2,6 @@
 use Rattle.std.proofs.Common.{◌≡◌, ◌<◌, ◌≤◌, ◌+◌, ◌∷◌, [], ℕ, zero, suc, Bool, true, List, Option, Some, None, refl, ap, ap₂, sym, subst, ◌∙◌, arith, inl, inr}
 use Rattle.std.specs.Prelude.{◌&&◌, drop, filter_map, find, slice_get, unwrap_or}
 use Rattle.std.proofs.lemmas.Bool.{cases_Bool}
-use Rattle.std.proofs.lemmas.Option.{none-some}
 use Rattle.std.proofs.lemmas.Slice.Eq.{bytes_eq-Decides}
 use Rattle.flat_holds.proofs.ListLaws.{position_is}
 use Rattle.flat_holds.proofs.PathLaws.{all_differ, first_path}
@@ -33,9 +32,6 @@ use Rattle.vrt_model.specs.declared.rules.Rules.{Rules}
 
 module _ (design : Design) (rules : Rules) (unrolled : Unrolled) where
   module _ (cell : ℕ) (roles : List PortRole) (is : IsUnrolled (whole_of design rules cell roles) unrolled) where
-    abbrev Inside : ℕ → Place → FlatPlace → Type 0
-    Inside n p at = (outer : FlatPlace) × (card : InstanceCard) × IsInside (whole_of design rules cell roles) (all_places (whole_of design rules cell roles)) n p at outer card
-
     place_at : (n : ℕ) (at : FlatPlace) → At (all_places (whole_of design rules cell roles)) n at → (p : Place) × At unrolled.places n p × (shown p ≡ bare at)
     place_at n at there =
         at_map shown unrolled.places n (bare at)
@@ -78,10 +74,6 @@ module _ (design : Design) (rules : Rules) (unrolled : Unrolled) where
         ∙ ap (λ (o : Option InstanceMatchRule). elim o [ None ↦ (let one : Reached = record { path = step ∷ steps; element = name; inverted = inverted } in one) | Some line ↦ led_up rules steps line.latch (differ inverted line.inverted) ]) some))
 
   -- ---- one step up
-
-  -- there is no such place
-  pub lead_none : (place : ℕ) (name : List ℕ) (inverted : Bool) → slice_get unrolled.places place ≡ None → AllLead design rules unrolled place name inverted place name inverted
-  lead_none place name inverted none cell roles at is there = let q = place_at cell roles is place at there in absurd (none-some q.0 (sym none ∙ q.1))
 
   -- the whole
   pub lead_top : (place : ℕ) (p : Place) (name : List ℕ) (inverted : Bool) → slice_get unrolled.places place ≡ Some p → place ≤ p.around

@@ -1,11 +1,9 @@
 -- The flat circuit of a cell without instances: how large it is, and that it has neither instances nor, without rules, holds.
 use Rattle.std.proofs.Common.{◌≡◌, ◌+◌, ◌++◌, ◌∷◌, [], ℕ, zero, suc, List, Bool, false, cond, filter, length, map, Option, Some, None, refl, ap, ◌∙◌, arith, append-nil, length-append}
-use Rattle.std.specs.Prelude.{bytes_eq, codes, slice_get, is_none, option_map, find, filter_map, drop, flat_map}
-use Rattle.std.specs.List.{enumerate_from}
+use Rattle.std.specs.Prelude.{bytes_eq, codes, slice_get, is_none, drop, flat_map}
 use Rattle.std.specs.Option.{option_or}
 use Rattle.std.proofs.Math.Path.{fun_ext}
 use Rattle.std.proofs.lemmas.List.{length-map}
-use Rattle.vrt_model.proofs.Lists.{filter_map_none}
 use Rattle.flatten.proofs.CellNets.{IsLeaf, all_names, cell, global_names, is_plain, names_are, own_names, port_names, shared_names}
 use Rattle.rule_index.specs.Firsts.{value_in}
 use Rattle.flatten.specs.NetTables.{Supplies, names_table}
@@ -13,13 +11,12 @@ use Rattle.rule_index.specs.Tables.{declared_supply, supply_in}
 use Rattle.rule_index.specs.declared.firsts.FirstValues.{FirstValues}
 use Rattle.vrt_model.specs.CellRules.{supply_of}
 use Rattle.vrt_model.specs.Comparison.{cell_at}
-use Rattle.vrt_model.specs.FlatCircuit.{Ruled, falls_on, flat_device, flat_devices, flat_hold, flat_holds, flat_instance, flat_instances, flat_nets, is_outermost, kind_by, own_flat_nets, plain_net, port_nets_of, rule_on}
+use Rattle.vrt_model.specs.FlatCircuit.{flat_device, flat_devices, flat_instance, flat_instances, flat_nets, kind_by, own_flat_nets, plain_net, port_nets_of}
 use Rattle.vrt_model.specs.Unrolled.{Place, Top, all_places, deepest, instances_from, own_nets, places_in, top_place}
 use Rattle.vrt_model.specs.declared.circuit.FlatNet.{FlatNet}
 use Rattle.vrt_model.specs.declared.design.Design.{Design}
 use Rattle.vrt_model.specs.declared.design.InstanceCard.{InstanceCard}
 use Rattle.vrt_model.specs.declared.pairing.PortRole.{PortRole}
-use Rattle.vrt_model.specs.declared.rules.HoldRule.{HoldRule}
 use Rattle.vrt_model.specs.declared.rules.Rules.{Rules}
 
 -- ---- what tables say
@@ -109,19 +106,6 @@ module _ (design : Design) (rules : Rules) (k : ℕ) (leaf : IsLeaf design k) (r
 
   pub instances_are : flat_instances top ≡ []
   instances_are = ap (λ (ps : List Place). map flat_instance (drop 1 ps)) one_place
-
-  no_items : {X Y : Type 0} (f : Place → X → Option Y) (xs : List X) → xs ≡ [] → flat_map (λ (at : Place). filter_map (f at) xs) (all_places top) ≡ []
-  no_items {X} f xs e = over_places (λ (at : Place). filter_map (f at) xs) ∙ ap (λ (ys : List X). filter_map (f place) ys) e
-
-  no_rule : (n : ℕ) → rules.holds ≡ [] → rule_on top n ≡ None
-  no_rule n unheld =
-      ap (λ (rs : List Ruled). find (is_outermost rs) rs)
-      (no_items (λ (at : Place) (rule : HoldRule). cond (falls_on top n at rule) (let one : Ruled = record { at = at; rule = rule } in Some one) None) rules.holds unheld)
-
-  pub holds_are : rules.holds ≡ [] → flat_holds top ≡ []
-  holds_are unheld =
-      filter_map_none (λ (p : ℕ × FlatNet). option_map (flat_hold top p.0) (rule_on top p.0)) (enumerate_from 0 (flat_nets top))
-      (λ p. ap (option_map (flat_hold top p.0)) (no_rule p.0 unheld))
 
   -- ---- by tables
 

@@ -1,9 +1,9 @@
 -- The names of the nets of a cell without instances, in the order of its flat circuit.
-use Rattle.std.proofs.Common.{◌≡◌, ◌≤◌, ◌++◌, ◌∷◌, ◌||◌, ◌&&◌, [], ℕ, zero, suc, not, List, Bool, true, false, cond, filter, length, Option, Some, None, refl, ap, sym, subst, ◌∙◌, arith, append-nil, length-append}
+use Rattle.std.proofs.Common.{◌≡◌, ◌≤◌, ◌++◌, ◌∷◌, ◌||◌, ◌&&◌, [], ℕ, zero, suc, not, List, Bool, true, false, cond, filter, length, Option, Some, None, refl, ap, sym, ◌∙◌, append-nil}
 use Rattle.std.specs.Prelude.{bytes_eq, flat_map, is_none, is_some}
 use Rattle.std.specs.List.{list_any}
 use Rattle.std.proofs.lemmas.List.Folds.{list_any-append}
-use Rattle.names.proofs.ApartLaws.{NoRepeat, apart, once_is_all, with_names_apart}
+use Rattle.names.proofs.ApartLaws.{once_is_all}
 use Rattle.names.proofs.NameLaws.{once_filter, with_names_are}
 use Rattle.vrt_model.specs.Lists.{At, distinct, has_name}
 use Rattle.names.specs.Names.{with_name, with_names}
@@ -45,19 +45,10 @@ module _ (supply : Supplies) where
       with_nets_names names xs ∙ with_names_are names (filter is_plain xs)
       ∙ ap (λ (ys : List (List ℕ)). names ++ distinct ys) (filter_twice (λ y. not (has_name names y)) is_plain xs)
 
-  -- and do not repeat
-  pub nets_apart : (names xs : List (List ℕ)) → NoRepeat names → NoRepeat (with_nets supply names xs)
-  nets_apart names xs n =
-      subst NoRepeat (sym (with_nets_names names xs)) (with_names_apart names (filter is_plain xs) n)
-
   -- more nets, and more behind them
   pub with_nets-append : (names xs ys : List (List ℕ)) → with_nets supply names (xs ++ ys) ≡ with_nets supply (with_nets supply names xs) ys
   with_nets-append names [] ys = refl
   with_nets-append names (x ∷ xs) ys = with_nets-append (with_net supply names x) xs ys
-
-  pub nets_grow : (names xs : List (List ℕ)) → length names ≤ length (with_nets supply names xs)
-  nets_grow names xs =
-      let e = ap length (with_nets_are names xs) in omega (arith, e, length-append names (distinct (filter (is_fresh names) xs)))
 
 -- ---- a cell without instances
 
@@ -218,14 +209,3 @@ module _ (design : Design) (rules : Rules) (k : ℕ) (leaf : IsLeaf design k) wh
   names_are =
       ap (λ (names : List (List ℕ)). with_nets (supply_of rules) (with_nets (supply_of rules) names (globals_named cell.devices design.globals)) (nets_named cell.devices)) ports_first
       ∙ ap (λ (names : List (List ℕ)). with_nets (supply_of rules) names (nets_named cell.devices)) globals_second ∙ owns_third
-
-  pub ports_are : port_table (supply_of rules) cell ≡ port_names
-  ports_are = ports_first
-
-  -- no name is there twice
-  pub all_apart : AllApart bytes_eq all_names
-  all_apart =
-      subst (λ (names : List (List ℕ)). AllApart bytes_eq names) names_are
-      (apart (names_table (supply_of rules) design.globals cell)
-      (nets_apart (supply_of rules) _ (nets_named cell.devices)
-      (nets_apart (supply_of rules) _ (globals_named cell.devices design.globals) (nets_apart (supply_of rules) [] cell.ports tt))))

@@ -95,15 +95,6 @@ pub none_own : (test : DeviceCard → Bool) (design : Design) (k : ℕ) (found :
 none_own test design k found cards e same none =
     none ∙ ap (find test) same ∙ ap (λ (c : Cell). find test c.devices) (cell_found design k found e)
 
-pub not_there : (test : DeviceCard → Bool) (design : Design) (depth k : ℕ) → None ≡ slice_get design.cells k → None ≡ first_card test design depth k
-not_there test design depth k e = by_depth depth where
-  by_depth : (d : ℕ) → None ≡ first_card test design d k
-  by_depth zero = ap (λ (o : Option Cell). find test (unwrap_or o (record { line = 0; name = []; ports = []; devices = []; instances = [] })).devices) e
-  by_depth (suc d) =
-      ap (λ (o : Option Cell).
-      let c = unwrap_or o (record { line = 0; name = []; ports = []; devices = []; instances = [] }) in
-      option_or (find test c.devices) (first_some (λ (i : InstanceCard). first_card test design d (cell_named design i.cell)) c.instances)) e
-
 -- none of its own: what is in it decides
 pub inner_cards : (test : DeviceCard → Bool) (design : Design) (k : ℕ) (found : Cell) (depth below : ℕ) (cards : List DeviceCard) (inner : List InstanceCard) → Some found ≡ slice_get design.cells k
     → cards ≡ found.devices → None ≡ find test cards → inner ≡ found.instances → suc below ≡ depth

@@ -23,10 +23,6 @@ pub told_more : (ts : List Token) (t : Token) → told_by (ts ++ t ∷ []) ≡ t
 unfolding told_by known_by
 told_more ts t = from_more nothing_known ts t
 
-pub told_none : told_by [] ≡ []
-unfolding told_by
-told_none = refl
-
 -- ---- what is known behind events
 
 same_place_entry : (k : Known) (e : Entry) → (with_entry k e).place ≡ k.place

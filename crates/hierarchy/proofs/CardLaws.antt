@@ -1,6 +1,6 @@
 -- Instance cards, one by one.
-use Rattle.std.proofs.Common.{◌≡◌, ◌∷◌, ◌<◌, ◌≤◌, ◌+◌, ◌&&◌, not, [], ℕ, List, Bool, true, false, cond, flat_map, length, drop, get_or, Option, Some, None, option_map, refl, ap, sym, ◌∙◌, arith, subst, inl, inr}
-use Rattle.std.specs.Prelude.{◌⊎◌, ◌==◌, bytes_eq, find, is_some, position, slice_get, unwrap_or}
+use Rattle.std.proofs.Common.{◌≡◌, ◌∷◌, ◌<◌, ◌≤◌, ◌+◌, ◌&&◌, not, [], ℕ, List, Bool, true, false, cond, flat_map, length, drop, get_or, Option, Some, None, option_map, ap, sym, ◌∙◌, inl, inr}
+use Rattle.std.specs.Prelude.{◌⊎◌, ◌==◌, bytes_eq, find, is_some, position, unwrap_or}
 use Rattle.std.specs.Option.{option_or}
 use Rattle.std.proofs.lemmas.List.{drop_all, drop_more}
 use Rattle.std.proofs.lemmas.List.Folds.{find-append}
@@ -13,7 +13,7 @@ use Rattle.vrt_model.specs.Unrolled.{cell_named}
 use Rattle.vrt_model.specs.declared.design.Cell.{Cell}
 use Rattle.vrt_model.specs.declared.design.Design.{Design}
 use Rattle.vrt_model.specs.declared.design.InstanceCard.{InstanceCard}
-use Rattle.names.proofs.PlaceLaws.{any_placed, placed_within, position_same}
+use Rattle.names.proofs.PlaceLaws.{any_placed, position_same}
 use Rattle.hierarchy.specs.Cards.{IsCardFault, card_fault}
 use Rattle.hierarchy.specs.Tables.{AreNames}
 use Rattle.hierarchy.specs.declared.faults.HierFault.{HierFault}
@@ -35,9 +35,6 @@ not_there design names name are e = any_placed (by_name name) design.cells ∙ a
 
 pub number_is : (design : Design) (names : List (List ℕ)) (name : List ℕ) (n : ℕ) → AreNames design names → position (bytes_eq name) names ≡ Some n → n ≡ cell_named design name
 number_is design names name n are e = ap (λ o. unwrap_or o 0) (sym e ∙ place_is design names name are)
-
-pub number_within : (design : Design) (names : List (List ℕ)) (name : List ℕ) (n : ℕ) → AreNames design names → position (bytes_eq name) names ≡ Some n → n < length design.cells
-number_within design names name n are e = placed_within (by_name name) design.cells n (sym (place_is design names name are) ∙ e)
 
 -- ---- a card
 

@@ -1,7 +1,7 @@
 -- The first name in the rules that is not there.
 use Rattle.std.proofs.Common.{◌≡◌, ◌∷◌, ◌++◌, [], ℕ, ◌≤◌, ◌||◌, List, Bool, true, false, not, cond, nat_lt, length, drop, Option, Some, None, refl, sym, ap, ap₂, ◌∙◌, arith, subst}
 use Rattle.std.specs.Prelude.{find, filter_map}
-use Rattle.std.specs.List.{cons_option, list_any}
+use Rattle.std.specs.List.{list_any}
 use Rattle.std.proofs.lemmas.Bool.Decides.{nat_tests}
 use Rattle.std.proofs.lemmas.List.{drop_all}
 use Rattle.names.proofs.FilterLaws.{find_same}
@@ -32,23 +32,11 @@ earlier_alone : (a : Option Missing) → earlier a None ≡ a
 earlier_alone None = refl
 earlier_alone (Some a) = refl
 
-earliest_cons : (a : Option Missing) (ms : List Missing) → earliest (cons_option a ms) ≡ earlier a (earliest ms)
-earliest_cons None ms = refl
-earliest_cons (Some a) ms = refl
-
 earliest_joined : (xs ys : List Missing) → earliest (xs ++ ys) ≡ earlier (earliest xs) (earliest ys)
 earliest_joined [] ys = refl
 earliest_joined (x ∷ xs) ys = ap (earlier (Some x)) (earliest_joined xs ys) ∙ sym (earlier_joined (Some x) (earliest xs) (earliest ys))
 
 -- ---- a loop over rules
-
--- one rule more
-pub one_more : {X : Type 0} (f : X → Option Missing) (x : X) (rest behind : List X) (before found after whole : Option Missing)
-    → rest ≡ x ∷ behind → found ≡ f x → after ≡ earlier before found
-    → earlier before (earliest (filter_map f rest)) ≡ whole → earlier after (earliest (filter_map f behind)) ≡ whole
-one_more f x rest behind before found after whole split is next so_far =
-    ap (λ a. earlier a (earliest (filter_map f behind))) (next ∙ ap (earlier before) is) ∙ earlier_joined before (f x) (earliest (filter_map f behind))
-    ∙ ap (earlier before) (sym (earliest_cons (f x) (filter_map f behind)) ∙ sym (ap (λ xs. earliest (filter_map f xs)) split)) ∙ so_far
 
 -- no rule is left
 pub all_looked : {X : Type 0} (f : X → Option Missing) (i : ℕ) (xs : List X) (found : Option Missing) → length xs ≤ i

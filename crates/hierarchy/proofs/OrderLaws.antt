@@ -1,8 +1,8 @@
 -- The order of the cells, and all faults in their order.
-use Rattle.std.proofs.Common.{◌≡◌, ◌<◌, ◌≤◌, inl, inr, ℕ, List, length, get_or, flat_map, Some, None, option_map, ap, sym, ◌∙◌, arith}
+use Rattle.std.proofs.Common.{◌≡◌, ◌<◌, ◌≤◌, inl, inr, ℕ, List, length, get_or, flat_map, None, ap, ◌∙◌, arith}
 use Rattle.std.specs.Prelude.{◌⊎◌, Ok}
 use Rattle.nesting.specs.Depths.{AreDepths}
-use Rattle.vrt_model.specs.Hierarchy.{Missing, bad_card, cell_order, depth_of_cell, missing_name, numbers}
+use Rattle.vrt_model.specs.Hierarchy.{cell_order, depth_of_cell, missing_name, numbers}
 use Rattle.vrt_model.specs.Nesting.{depth_in}
 use Rattle.vrt_model.specs.Unrolled.{deepest}
 use Rattle.vrt_model.specs.declared.design.Design.{Design}
@@ -11,8 +11,8 @@ use Rattle.hierarchy.proofs.ListedLaws.{listed}
 use Rattle.hierarchy.proofs.NestedLaws.{count_is, of_cells}
 use Rattle.hierarchy.specs.Cards.{IsCardFault}
 use Rattle.hierarchy.specs.Listed.{at_depth}
-use Rattle.hierarchy.specs.Nested.{AreInner, IsNestingFault}
-use Rattle.hierarchy.specs.Order.{AreCellDepths, HasDepths, IsDesignFault, IsHierFault, IsNameFault, OrderGives, name_fault}
+use Rattle.hierarchy.specs.Nested.{AreInner}
+use Rattle.hierarchy.specs.Order.{AreCellDepths, HasDepths, IsDesignFault, IsHierFault, IsNameFault, OrderGives}
 use Rattle.hierarchy.specs.declared.faults.HierFault.{HierFault}
 use Rattle.hierarchy.specs.declared.faults.HierFault.TheVariants.{NoMemory}
 
@@ -37,10 +37,6 @@ order_is design depths given order has same e = e ∙ listed (depth_of_cell desi
 pub card_told : (design : Design) (f : HierFault) → (f ≡ NoMemory) ⊎ IsCardFault design f → (f ≡ NoMemory) ⊎ IsDesignFault design f
 card_told design f (inl e) = inl e
 card_told design f (inr h) = inr (inl h)
-
-pub nesting_told : (design : Design) (f : HierFault) → bad_card design ≡ None → (f ≡ NoMemory) ⊎ IsNestingFault design f → (f ≡ NoMemory) ⊎ IsDesignFault design f
-nesting_told design f cards (inl e) = inl e
-nesting_told design f cards (inr h) = inr (inr (cards, h))
 
 pub design_told : (design : Design) (rules : Rules) (f : HierFault) → (f ≡ NoMemory) ⊎ IsDesignFault design f → (f ≡ NoMemory) ⊎ IsHierFault design rules f
 design_told design rules f (inl e) = inl e

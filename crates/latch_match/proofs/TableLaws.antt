@@ -125,11 +125,6 @@ pub found : {X V : Type 0} (g : X → Named V) (entries : List (Named V)) (o : O
 found {X} {V} g entries o x name value u e is t =
     subst (λ (p : Option X). IsTable (entries ++ cons_option (option_map g p) []) u) e (subst (λ (n : Named V). IsTable (entries ++ n ∷ []) u) is t)
 
--- where there is no item, the table is as it was
-pub not_found : {X V : Type 0} (g : X → Named V) (entries : List (Named V)) (o : Option X) (t : Table V) → None ≡ o → IsTable entries t → IsTable (entries ++ cons_option (option_map g o) []) t
-not_found {X} {V} g entries o t e is =
-    subst (λ (p : Option X). IsTable (entries ++ cons_option (option_map g p) []) t) e (subst (λ (es : List (Named V)). IsTable es t) (sym (append-nil entries)) is)
-
 -- ---- what a table of items says
 
 first_ruled : {X V : Type 0} (test : X → Bool) (key : X → List ℕ) (value : X → V) (xs : List X) (name : List ℕ)

@@ -15,9 +15,6 @@ use Rattle.model_laws.specs.Logic.{IsLogic, IsTied}
 use Rattle.vrt_model.proofs.Assignments.{cover_same}
 
 module _ (flat : FlatModel) (around : Surroundings) (logic : IsLogic flat around) where
-  no_latch : (latch : FlatLatch) → Among flat.latches latch → ⊥
-  no_latch latch m = at_none m.0 latch (subst (λ (ls : List FlatLatch). At ls m.0 latch) logic.latches m.1)
-
   no_numbered : (l : Numbered) → Among (numbered_from 0 flat.latches) l → ⊥
   no_numbered l m = at_none m.0 l (subst (λ (ls : List FlatLatch). At (numbered_from 0 ls) m.0 l) logic.latches m.1)
 

@@ -14,9 +14,8 @@ use Rattle.vrt_model.specs.FlatBlif.{all_models, flat_model_of, network_names, s
 use Rattle.vrt_model.specs.FlatCircuit.{flat_circuit_of}
 use Rattle.vrt_model.specs.Groups.{groups_of}
 use Rattle.vrt_model.specs.Held.{setting_of}
-use Rattle.vrt_model.specs.Path.{Joins}
 use Rattle.vrt_model.specs.ModelArcs.{HasModelArc, carried_bits}
-use Rattle.vrt_model.specs.Known.{IsCycle, IsFixed, IsShut, settled, HasArc, HasRankArc, IsInPart, IsKnown, IsLeastOfPart, IsPlain, IsRanking, IsTogether, fixed, itself, onward}
+use Rattle.vrt_model.specs.Known.{IsCycle, HasArc, HasRankArc, IsInPart, IsKnown, IsLeastOfPart, IsPlain, IsRanking, IsTogether, fixed, itself, onward}
 use Rattle.vrt_model.specs.Lists.{At, Among, bit_at}
 use Rattle.vrt_model.specs.PairedPorts.{pairing_of, ports_fault}
 use Rattle.vrt_model.specs.Places.{Finding, IsFinding, IsFirst, IsNoLater, IsOrder}
@@ -342,43 +341,6 @@ first_fault = record {
   in_phase = record { found = is_found; first = (rank, least, in_order, follows) };
   no_earlier = λ other f. omega arith;
 }
-
--- ---- the output is known before anything is solved
-
-abbrev inside : ℕ → Bool
-inside n = eqb n 2
-
-only_output : (n : ℕ) → inside n ≡ true → n ≡ 2
-only_output n e = eqb-true n 2 e
-
-output_is_plain : IsPlain circuit 2
-output_is_plain = (_, refl, refl)
-
-joined_to : (n m : ℕ) (d : Device) → inside n ≡ true → Among (the_device ∷ []) d → Joins d n m → m ≡ 0
-joined_to n m d e a j =
-    let only : Joins the_device n m = subst (λ (x : Device). Joins x n m) (sym (the_only d a)) j in
-    elim only [ inl here ↦ sym here.1 | inr here ↦ absurd (apart (here.1 ∙ only_output n e)) ]
-  where
-    apart : ◌≡◌ {A = ℕ} 0 2 → ⊥
-    apart x = omega (arith, x)
-
-output_shut : IsShut circuit (phase_at base 0) inside state.reading
-output_shut = record {
-  plain = λ n e. (subst (λ (m : ℕ). IsPlain circuit m) (sym (only_output n e)) output_is_plain, λ h. none-some h.0 h.1.1, λ w. none-some w.0 w.2.1);
-  joined = λ n m d e a j on. inr (false, subst (λ (x : ℕ). IsFixed circuit (phase_at base 0) x false) (sym (joined_to n m d e a j)) (_, refl, refl));
-}
-
-gate_known : (d : Device) → Among (the_device ∷ []) d → IsKnown circuit (phase_at base 0) d.gate.0 (state.reading d.gate.0)
-gate_known d a = subst (λ (x : Device). IsKnown circuit (phase_at base 0) x.gate.0 (state.reading x.gate.0)) (the_only d a) vdd_known
-
-output_known : IsKnown circuit (phase_at base 0) 2 false
-output_known = settled inside state.reading setting.held state.driven output_shut refl own_bits (λ m l d e a j. gate_known d a) (y_at state true good_state)
-  where
-    own_bits : (n : ℕ) (net : FlatNet) → At the_nets n net → HasGivenBit (phase_at base 0) state.reading net.kind n (state.reading n)
-    own_bits zero net e = subst (λ (x : FlatNet). HasGivenBit (phase_at base 0) state.reading x.kind 0 (state.reading 0)) (same_Some _ net e) refl
-    own_bits (suc zero) net e = subst (λ (x : FlatNet). HasGivenBit (phase_at base 0) state.reading x.kind 1 (state.reading 1)) (same_Some _ net e) refl
-    own_bits (suc (suc zero)) net e = subst (λ (x : FlatNet). HasGivenBit (phase_at base 0) state.reading x.kind 2 (state.reading 2)) (same_Some _ net e) tt
-    own_bits (suc (suc (suc n))) net e = absurd (none-some net e)
 
 -- ---- the verdict, from the netlist to the line
 

@@ -11,7 +11,6 @@ mod HeldInput
 mod HeldValues
 mod LeftWhole
 mod NoPhase
-pub mod NoWhole
 mod OneCell
 mod OneDevice
 mod PairedValues

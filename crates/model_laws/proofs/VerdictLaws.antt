@@ -1,13 +1,11 @@
 -- Which verdicts exclude which, and what expressions are worth.
-use Rattle.std.proofs.Common.{◌≡◌, ℕ, ◌<◌, Bool, List, [], Some, refl, ◌∙◌, ap, length}
+use Rattle.std.proofs.Common.{◌≡◌, ℕ, ◌<◌, Bool, List, Some, refl, ◌∙◌, ap, length}
 use Rattle.std.specs.Prelude.{◌&&◌, ◌||◌}
 use Rattle.vrt_model.specs.Comparison.{Comparison}
 use Rattle.vrt_model.specs.Equal.{IsEqual, IsVacuous}
 use Rattle.vrt_model.specs.Expressions.{both, negated, value_by, value_of}
-use Rattle.vrt_model.specs.FlatCircuit.{flat_circuit_of}
 use Rattle.vrt_model.specs.Lists.{differ}
 use Rattle.vrt_model.specs.Places.{Finding, IsFinding}
-use Rattle.vrt_model.specs.Unrolled.{Top}
 use Rattle.vrt_model.specs.declared.rules.Expr.{Expr}
 use Rattle.vrt_model.specs.declared.rules.Expr.TheVariants.{Port, Not', And', Xor', Or'}
 
@@ -18,11 +16,6 @@ value_total bits (Not' p e) = ap negated (value_total bits e)
 value_total bits (And' p e q f) = ap (λ v. both ◌&&◌ v (value_by (λ name. Some (bits name)) f)) (value_total bits e) ∙ ap (both ◌&&◌ (Some (value_of bits e))) (value_total bits f)
 value_total bits (Xor' p e q f) = ap (λ v. both differ v (value_by (λ name. Some (bits name)) f)) (value_total bits e) ∙ ap (both differ (Some (value_of bits e))) (value_total bits f)
 value_total bits (Or' p e q f) = ap (λ v. both ◌||◌ v (value_by (λ name. Some (bits name)) f)) (value_total bits e) ∙ ap (both ◌||◌ (Some (value_of bits e))) (value_total bits f)
-
--- a flat circuit has no whole instance
-pub flat_has_no_whole : (t : Top) → (flat_circuit_of t).wholes ≡ []
-unfolding flat_circuit_of
-flat_has_no_whole t = refl
 
 -- a cell that is equal has no fault, and no phase of it is vacuous
 pub equal_no_fault : (k : Comparison) (f : Finding) → IsEqual k → IsFinding k f → ⊥

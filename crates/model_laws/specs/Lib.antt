@@ -3,7 +3,6 @@ pub mod FirstFinding
 pub mod FloatingGate
 pub mod HeldInput
 pub mod Logic
-pub mod NoWhole
 pub mod OneCell
 pub mod Ranks
 pub mod SmallCircuits

@@ -1,20 +1,17 @@
-//! Laws of circuits: well-formed ones, those without whole instances, and those whose gates have given values.
+//! Laws of circuits: well-formed ones, and those whose gates have given values.
 
-ghost use Rattle.std.specs.Prelude.{◌≡◌, ℕ, ◌<◌, ◌≤◌, Bool, List, [], Some, true, length};
+ghost use Rattle.std.specs.Prelude.{◌≡◌, ℕ, ◌<◌, Some, true, length};
 ghost use Rattle.model_laws.specs.Logic.{IsLogic};
-ghost use Rattle.model_laws.specs.NoWhole.{whole_nowhere};
 ghost use Rattle.model_laws.specs.OneCell.{IsOneCell};
 ghost use Rattle.model_laws.specs.Ranks.{rank_of};
 ghost use Rattle.vrt_model.proofs.GatesGiven.{HasGivenGates};
 ghost use Rattle.vrt_model.specs.Networks.{HasRanges};
 ghost use Rattle.vrt_model.specs.Assignment.{Assignment, IsAssignment, Surroundings};
 ghost use Rattle.vrt_model.specs.CellRules.{is_observed_port};
-ghost use Rattle.vrt_model.specs.Checked.{IsChecked, IsCircuitWith};
 ghost use Rattle.vrt_model.specs.Circuits.{IsCircuit};
 ghost use Rattle.vrt_model.specs.Comparison.{CellPort, Comparison, cell_at, is_observed, output_signal, phase_at, ports_of};
 ghost use Rattle.vrt_model.specs.Equal.{Agree};
 ghost use Rattle.vrt_model.specs.Faults.{Assigns};
-ghost use Rattle.vrt_model.specs.FlatCircuit.{flat_circuit_of};
 ghost use Rattle.vrt_model.specs.Known.{IsPlain, IsRanking, IsUnknown};
 ghost use Rattle.vrt_model.specs.Levels.{least_level, source_level};
 ghost use Rattle.vrt_model.specs.Lists.{Among, At};
@@ -22,8 +19,6 @@ ghost use Rattle.vrt_model.specs.Reading.{Partial, Reading, devices_of};
 ghost use Rattle.vrt_model.specs.Response.{Fight, Float, IsResponse, Shows};
 ghost use Rattle.vrt_model.specs.Solution.{IsSolution, SameObserved};
 ghost use Rattle.vrt_model.specs.State.{IsState, Setting, State, network_of};
-ghost use Rattle.vrt_model.specs.Unrolled.{Top};
-ghost use Rattle.vrt_model.specs.declared.blif.Blif.{Blif};
 ghost use Rattle.vrt_model.specs.declared.circuit.Circuit.{Circuit};
 ghost use Rattle.vrt_model.specs.declared.circuit.Device.{Device};
 ghost use Rattle.vrt_model.specs.declared.circuit.FlatNet.{FlatNet};
@@ -31,7 +26,6 @@ ghost use Rattle.vrt_model.specs.declared.circuit.Hold.{Hold};
 ghost use Rattle.vrt_model.specs.declared.circuit.NetKind.TheVariants.{Input};
 ghost use Rattle.vrt_model.specs.declared.flat_model.FlatModel.{FlatModel};
 ghost use Rattle.vrt_model.specs.declared.rules.Phase.{Phase};
-ghost use Rattle.vrt_model.specs.declared.whole.CellFacts.{CellFacts};
 
 /// What other laws ask of a circuit holds where it is well formed: its ranges, the levels of its devices below those of
 /// sources, and the sizes of its holds below both.
@@ -40,15 +34,6 @@ pub fn well_formed()
     ensures ranges { (c : Circuit) → IsCircuit c → HasRanges c }
     ensures devices { (c : Circuit) → IsCircuit c → (d : Device) → Among (devices_of true c) d → d.level < source_level c }
     ensures holds { (c : Circuit) → IsCircuit c → (at : ℕ) (h : Hold) → At c.holds at h → h.size < least_level c }
-{}
-
-/// The flat circuit has no whole instance. It is the circuit in which none is left whole, and the checked one where
-/// nothing is known of the cells below.
-#[tactic(auto, using(crate::proofs::VerdictLaws::flat_has_no_whole))]
-pub fn flat_circuits()
-    ensures none { (t : Top) → (flat_circuit_of t).wholes ≡ [] }
-    ensures with { (t : Top) (blif : Blif) (facts : List CellFacts) → IsCircuitWith (whole_nowhere t) blif facts (flat_circuit_of t) }
-    ensures checked { (t : Top) (blif : Blif) → IsChecked (whole_nowhere t) blif [] (flat_circuit_of t) }
 {}
 
 /// Where each gate is a net with a given value there is exactly one solution, whatever the observed nets are, and plain

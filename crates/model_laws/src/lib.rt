@@ -7,7 +7,7 @@ mod paths;
 mod small_circuits;
 mod verdicts;
 
-pub use circuits::{flat_circuits, given_gates, given_logic, one_cell, well_formed};
+pub use circuits::{given_gates, given_logic, one_cell, well_formed};
 pub use paths::{clear_paths, one_answer, sources_on_paths, walks};
 pub use small_circuits::{
     blocked_load, bridge_of_five, charges, input_and_ring, keepers, missing_device_and_held_input,

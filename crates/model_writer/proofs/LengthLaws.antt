@@ -1,14 +1,12 @@
 -- How long lines are.
-use Rattle.std.proofs.Common.{◌≡◌, ℕ, suc, ◌+◌, List, [], ◌∷◌, ◌++◌, length, length-append, refl, sym, ap, ◌∙◌, arith}
+use Rattle.std.proofs.Common.{◌≡◌, ℕ, suc, ◌+◌, List, [], ◌∷◌, ◌++◌, length, length-append, sym, ap, ◌∙◌, arith}
 use Rattle.std.specs.Prelude.{codes, flat_map}
-use Rattle.model_writer.proofs.TextLaws.{clocks_are, constants_are, interface_is, line_is, model_is, node_is, nodes_are, root_is, roots_are, signals_are, title_is}
+use Rattle.model_writer.proofs.TextLaws.{clocks_are, constants_are, interface_is, line_is, model_is}
 use Rattle.model_writer.specs.Pieces.{title, words_behind}
-use Rattle.model_writer.specs.Shapes.{line_cover, line_covers, root_cover, root_covers}
-use Rattle.model_writer.specs.declared.model.NodeLine.{NodeLine}
 use Rattle.plain_models.specs.Lines.{ended, text_of}
 use Rattle.plain_models.specs.Texts.{PlainCover, PlainModel, clock_lines, cover_lines, interface_lines, model_text}
 use Rattle.vrt_model.specs.VerdictText.{spaced}
-use Rattle.written_models.specs.Written.{constants, numbered, variable_at}
+use Rattle.written_models.specs.Written.{constants, numbered}
 
 -- pieces
 two : (a b : List ℕ) → length (a ++ b) ≡ length a + length b
@@ -30,35 +28,6 @@ title_length name =
 pub clocks_length : (clocks : List (List ℕ)) (first : List ℕ) (behind : List (List ℕ)) → clocks ≡ first ∷ behind
     → length (text_of (clock_lines clocks)) ≡ 6 + length (words_behind clocks) + 1
 clocks_length clocks first behind e = ap length (sym (clocks_are clocks first behind e)) ∙ line_length (codes ".clock") clocks
-
--- the cover of a node
-pub node_length : (variables : List (List ℕ)) (k : ℕ) (node : NodeLine)
-    → length (text_of (cover_lines (line_cover variables k node)))
-    ≡ length (variable_at variables node.variable) + (length (numbered node.low) + length (numbered node.high)) + length (numbered k) + 23
-node_length variables k node =
-    let v : List ℕ = variable_at variables node.variable in
-    let lo : List ℕ = numbered node.low in
-    let hi : List ℕ = numbered node.high in
-    let number : List ℕ = numbered k in
-    let s : List ℕ = spaced (codes ".names" ∷ v ∷ lo ∷ hi ∷ number ∷ []) in
-    let all : length (text_of (cover_lines (line_cover variables k node))) ≡ length s + 13 = ap length (sym (node_is variables k node)) ∙ two s (codes "\n01- 1\n1-1 1\n") in
-    let one : length s ≡ length ((((codes ".names " ++ v) ++ 32 ∷ lo) ++ 32 ∷ hi) ++ 32 ∷ number) = ap length (sym (signals_are v lo hi number)) in
-    let fourth : length ((((codes ".names " ++ v) ++ 32 ∷ lo) ++ 32 ∷ hi) ++ 32 ∷ number) ≡ length (((codes ".names " ++ v) ++ 32 ∷ lo) ++ 32 ∷ hi) + suc (length number) =
-    two (((codes ".names " ++ v) ++ 32 ∷ lo) ++ 32 ∷ hi) (32 ∷ number) in
-    let third : length (((codes ".names " ++ v) ++ 32 ∷ lo) ++ 32 ∷ hi) ≡ length ((codes ".names " ++ v) ++ 32 ∷ lo) + suc (length hi) = two ((codes ".names " ++ v) ++ 32 ∷ lo) (32 ∷ hi) in
-    let second : length ((codes ".names " ++ v) ++ 32 ∷ lo) ≡ length (codes ".names " ++ v) + suc (length lo) = two (codes ".names " ++ v) (32 ∷ lo) in
-    let first : length (codes ".names " ++ v) ≡ 7 + length v = two (codes ".names ") v in
-    omega (arith, all, one, fourth, third, second, first)
-
--- the cover of an output
-pub root_length : (name : List ℕ) (root : ℕ) → length (text_of (cover_lines (root_cover name root))) ≡ length name + length (numbered root) + 13
-root_length name root =
-    let number : List ℕ = numbered root in
-    let all : length (text_of (cover_lines (root_cover name root))) ≡ length ((codes ".names" ++ 32 ∷ number) ++ 32 ∷ name) + 5 =
-    ap length (sym (root_is name root)) ∙ two ((codes ".names" ++ 32 ∷ number) ++ 32 ∷ name) (codes "\n1 1\n") in
-    let second : length ((codes ".names" ++ 32 ∷ number) ++ 32 ∷ name) ≡ length (codes ".names" ++ 32 ∷ number) + suc (length name) = two (codes ".names" ++ 32 ∷ number) (32 ∷ name) in
-    let first : length (codes ".names" ++ 32 ∷ number) ≡ 6 + suc (length number) = two (codes ".names") (32 ∷ number) in
-    omega (arith, all, second, first)
 
 -- the name and the interface
 pub interface_length : (m : PlainModel)

@@ -1,9 +1,9 @@
 -- Lines that are made piece by piece.
-use Rattle.std.proofs.Common.{◌≡◌, ℕ, suc, ◌+◌, List, [], ◌∷◌, ◌++◌, refl, sym, ap, subst, ◌∙◌, append_assoc, append-nil, arith}
+use Rattle.std.proofs.Common.{◌≡◌, ℕ, suc, ◌+◌, List, [], ◌∷◌, ◌++◌, refl, sym, ap, ◌∙◌, append_assoc, append-nil, arith}
 use Rattle.std.specs.Prelude.{codes, flat_map}
 use Rattle.std.proofs.lemmas.Grind.{flat_map-append}
 use Rattle.model_writer.specs.Pieces.{title, words_behind}
-use Rattle.model_writer.specs.Shapes.{line_cover, line_covers, root_cover, root_covers}
+use Rattle.model_writer.specs.Shapes.{line_cover, line_covers, root_cover}
 use Rattle.model_writer.specs.declared.model.NodeLine.{NodeLine}
 use Rattle.plain_models.specs.Lines.{ended, text_of}
 use Rattle.plain_models.specs.Texts.{PlainCover, PlainModel, clock_lines, cover_lines, interface_lines, model_text}
@@ -87,12 +87,6 @@ pub root_is : (name : List ℕ) (root : ℕ)
 root_is name root =
     ap (λ t. t ++ codes "\n1 1\n") (append_assoc (codes ".names") (32 ∷ numbered root) (32 ∷ name))
     ∙ sym (append_assoc (spaced (codes ".names" ∷ numbered root ∷ name ∷ [])) (10 ∷ []) (codes "1 1\n"))
-
--- those of outputs, the first before the others
-pub roots_are : (name : List ℕ) (names : List (List ℕ)) (root : ℕ) (roots : List ℕ)
-    → text_of (cover_lines (root_cover name root)) ++ text_of (flat_map cover_lines (root_covers names roots))
-    ≡ text_of (flat_map cover_lines (root_covers (name ∷ names) (root ∷ roots)))
-roots_are name names root roots = sym (flat_map-append (λ words. ended (spaced words)) (cover_lines (root_cover name root)) (flat_map cover_lines (root_covers names roots)))
 
 -- the constants
 pub constants_are :

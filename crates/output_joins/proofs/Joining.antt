@@ -1,16 +1,16 @@
 -- Outputs joined one after the other.
-use Rattle.std.proofs.Common.{◌≡◌, ℕ, ◌+◌, ◌*◌, ◌<◌, ◌≤◌, ◌&&◌, ◌||◌, Bool, List, [], ◌∷◌, Err, Ok, Result, arith, ap, ap₂, length, refl, subst, sym, ◌∙◌}
+use Rattle.std.proofs.Common.{◌≡◌, ℕ, ◌+◌, ◌*◌, ◌<◌, ◌&&◌, ◌||◌, Bool, List, ◌∷◌, Err, Ok, Result, arith, ap, ap₂, length, refl, subst, sym, ◌∙◌}
 use Rattle.std.specs.Prelude.{All}
-use Rattle.std.proofs.Math.Bool.{or-false, or_assoc}
+use Rattle.std.proofs.Math.Bool.{or_assoc}
 use Rattle.std.proofs.lemmas.List.Elements.{All-head, All-tail}
 use Rattle.node_pool.specs.declared.region.Span.{Span}
-use Rattle.bdd_core.proofs.Frames.{adds_none, nodes_then, word_added}
-use Rattle.bdd_core.specs.Diagram.{IsReduced, Valuation, meaning}
+use Rattle.bdd_core.proofs.Frames.{nodes_then, word_added}
+use Rattle.bdd_core.specs.Diagram.{Valuation, meaning}
 use Rattle.bdd_core.specs.Store.{AddsNodes, Diagrams, IsLive, function_of}
 use Rattle.bdd_core.specs.Words.{IsFilled, shows, word_at}
 use Rattle.bdd_core.specs.declared.handle.H.{H}
 use Rattle.bdd_core.specs.declared.handle.Spent.{Spent}
-use Rattle.bdd_ops.proofs.CountingLaws.{counted_none, counts_more, counts_then}
+use Rattle.bdd_ops.proofs.CountingLaws.{counts_more, counts_then}
 use Rattle.bdd_ops.specs.Counting.{Counts, IsCounted}
 use Rattle.output_joins.specs.Joins.{AreLive, HasJoined, IsOutputWithin, is_of, part_of, parts_of, shown}
 use Rattle.phase_laws.proofs.Work.{used_more}
@@ -30,20 +30,6 @@ pub record IsJoining (care : H) (gates : Span) (wishes left : List Wish) (old : 
   pub done : ℕ
   pub count : done + length left ≡ length wishes
   pub counted : (u made : ℕ) → IsUsed old.budget u made old → IsCounted u (2 * done) old new
-
--- nothing is joined yet
-pub joining_none : (care : H) (gates : Span) (wishes : List Wish) (d : Diagrams) (handles : List H) → IsReduced d.vars d.nodes → length d.nodes ≤ d.budget → AreLive d handles
-    → All (IsOutputWithin gates.len (length handles)) wishes → IsJoining care gates wishes wishes d handles d handles
-joining_none care gates wishes d handles sound within live there = record {
-  adds = adds_none d sound within;
-  len = refl;
-  live = live;
-  there = there;
-  is = λ s lt v. refl;
-  done = 0;
-  count = omega arith;
-  counted = λ u made used. counted_none u d;
-}
 
 module _ (care : H) (gates : Span) (wishes left behind : List Wish) (wish : Wish) (first : left ≡ wish ∷ behind) (old mid new : Diagrams) (handles joined : List H)
     (care_live : IsLive old care) (filled : IsFilled old gates) (before : IsJoining care gates wishes left old handles mid joined) where
@@ -101,13 +87,3 @@ module _ (care : H) (gates : Span) (wishes left behind : List Wish) (wish : Wish
         let sum : 2 * (before.done + 1) ≡ 2 * before.done + 2 = omega arith in
         subst (λ (n : ℕ). IsCounted u n old new) (sym sum) (counts_joined (Ok tt) counts u made used).added;
   }
-
--- all are joined
-pub joining_done : (care : H) (gates : Span) (wishes left : List Wish) (old new : Diagrams) (handles joined : List H) → length left ≡ 0
-    → IsJoining care gates wishes left old handles new joined → HasJoined (parts_of (function_of old care) (shows old gates) wishes) old handles new joined
-joining_done care gates wishes [] old new handles joined none j = record {
-  len = j.len;
-  live = j.live;
-  is = λ s lt v. sym (or-false (shown new joined s v)) ∙ j.is s lt v;
-}
-joining_done care gates wishes (w ∷ ws) old new handles joined none j = absurd (omega (arith, none))

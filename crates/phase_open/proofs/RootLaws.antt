@@ -10,7 +10,7 @@ use Rattle.bdd_core.specs.Words.{IsFilled, Writes, shows, word_at}
 use Rattle.bdd_core.specs.declared.handle.H.{H}
 use Rattle.bdd_core.specs.declared.handle.Spent.{Spent}
 use Rattle.bdd_core.proofs.Frames.{shows_kept}
-use Rattle.bdd_ops.proofs.CountingLaws.{counted_more, counted_none, counts_err, counts_more, counts_ok, counts_then}
+use Rattle.bdd_ops.proofs.CountingLaws.{counted_more, counts_err, counts_more, counts_ok, counts_then}
 use Rattle.bdd_ops.specs.Counting.{Counts, IsCounted}
 use Rattle.hold_keep.proofs.BitLaws.{constant_is}
 use Rattle.phase_open.proofs.Sources.{input_below, variable_more, variables_few}
@@ -36,10 +36,6 @@ constant_means d h b sound e = record {
   live = (let below = constant_live d b sound in omega (arith, e, below));
   same = λ v. ap (λ (x : ℕ). meaning d.nodes x v) e ∙ constant_is d.nodes v b;
 }
-
--- no operation where nothing is made
-pub counts_nothing : {A : Type 0} (u : ℕ) (d : Diagrams) (x : A) → Counts u 1 d d (Ok x)
-counts_nothing u d x = counts_ok u 1 d d x (counted_more u 0 1 d d (omega arith) (counted_none u d))
 
 -- operations, and then words that are written
 pub counts_written : {A B : Type 0} (u n : ℕ) (old mid new : Diagrams) (x : A) (y : B) (ws : List ℕ) → new ≡ record mid { words = ws } → Counts u n old mid (Ok x) → Counts u n old new (Ok y)

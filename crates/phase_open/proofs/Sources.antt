@@ -1,9 +1,8 @@
 -- The bits of the variables of a phase: those of inputs by the numbers of their nets, then those of the latch elements.
-use Rattle.std.proofs.Common.{◌≡◌, ℕ, zero, suc, ◌+◌, ◌<◌, ◌≤◌, Bool, true, false, cond, List, [], ◌∷◌, ◌++◌, Some, None, length, length-append, map, arith, ap, ap₂, refl, sym, subst, ◌∙◌, eqb}
+use Rattle.std.proofs.Common.{◌≡◌, ℕ, zero, suc, ◌+◌, ◌<◌, ◌≤◌, Bool, true, false, cond, List, [], ◌∷◌, ◌++◌, Some, None, length, length-append, map, arith, ap, ap₂, refl, sym, subst, ◌∙◌}
 use Rattle.std.specs.Prelude.{filter, filter_map, slice_index_or, take}
 use Rattle.std.specs.List.{cons_option, enumerate_from}
-use Rattle.std.proofs.Math.Seq.{take-length}
-use Rattle.std.proofs.lemmas.Bool.{eq-eqb, eqb-true, false_from_ne_true}
+use Rattle.std.proofs.lemmas.Bool.{eq-eqb, ne_eqb}
 use Rattle.std.proofs.lemmas.List.Filters.{length-filter_more}
 use Rattle.std.proofs.lemmas.Option.{none-some, same_Some, get_or_from_slice_get, slice_get_within}
 use Rattle.bdd_core.specs.Diagram.{Valuation}
@@ -58,9 +57,6 @@ later_bit : (is : Source → Bool) (s : Source) (sources : List Source) (at : �
 later_bit is s sources at e rest [] = refl
 later_bit is s sources at e rest (b ∷ bits) = ap {B = Bool} (λ (t : Bool). cond t b (bit_of is sources bits)) e ∙ rest bits
 
-other_number : (m n : ℕ) → (m ≡ n → ⊥) → eqb m n ≡ false
-other_number m n ne = false_from_ne_true (eqb m n) (λ t. ne (eqb-true m n t))
-
 -- ---- inputs
 
 input_from : (first i n : ℕ) (nets : List FlatNet) (net : FlatNet) (elements groups : List Source) → n ≡ first + i → At nets i net → net.kind ≡ InputNet
@@ -79,7 +75,7 @@ input_from first (suc i) n (x ∷ nets) net elements groups place e k bits =
         ≡ slice_index_or bs (length (cond own (x ∷ filter is_input_net (take i nets)) (filter is_input_net (take i nets)))) false
     by_first rest true bs =
         later_bit (is_input_of n) (input_net first) (inputs_from (first + 1) nets ++ elements ++ groups) (length (filter is_input_net (take i nets)))
-        (other_number first n (λ same. omega (arith, place, same))) rest bs
+        (ne_eqb first n (λ same. omega (arith, place, same))) rest bs
     by_first rest false bs = rest bs
 
 -- ---- elements
@@ -90,7 +86,7 @@ element_from first i e [] groups place lt bits = absurd (omega (arith, lt))
 element_from first zero e (x ∷ names) groups place lt bits =
     first_bit (is_element e) (Element first) (elements_from (suc first) names ++ groups) (eq-eqb first e (omega (arith, place))) bits
 element_from first (suc i) e (x ∷ names) groups place lt bits =
-    later_bit (is_element e) (Element first) (elements_from (suc first) names ++ groups) i (other_number first e (λ same. omega (arith, place, same)))
+    later_bit (is_element e) (Element first) (elements_from (suc first) names ++ groups) i (ne_eqb first e (λ same. omega (arith, place, same)))
     (element_from (suc first) i e names groups (omega (arith, place)) (omega (arith, lt))) bits
 
 -- behind the inputs
@@ -112,10 +108,6 @@ element_behind first e at (x ∷ nets) elements groups rest bits = by_first (ele
 -- the variable of the next net
 pub variable_more : (c : Circuit) (n : ℕ) (d : FlatNet) → n < length c.nets → variable_at c (n + 1) ≡ variable_at c n + cond (is_input (slice_index_or c.nets n d).kind) 1 0
 variable_more c n d lt = length-filter_more is_input_net c.nets n d lt
-
--- those before the end are all
-pub variables_all : (c : Circuit) → variable_at c (length c.nets) ≡ input_count c
-variables_all c = ap (λ (nets : List FlatNet). length (filter is_input_net nets)) (take-length c.nets)
 
 -- those before a net are among those of all nets
 filter_few : (nets : List FlatNet) (n : ℕ) → length (filter is_input_net (take n nets)) ≤ length (filter is_input_net nets)

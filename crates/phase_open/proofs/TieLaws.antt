@@ -1,5 +1,5 @@
 -- The input ports, one after the other, whose signals get the roots of their nets.
-use Rattle.std.proofs.Common.{◌≡◌, ℕ, ◌+◌, ◌<◌, List, [], ◌∷◌, ◌++◌, length, append_assoc, append-nil, Option, Some, None, ap, refl, sym, subst, ◌∙◌, inl, inr}
+use Rattle.std.proofs.Common.{◌≡◌, ℕ, ◌+◌, ◌<◌, List, [], ◌∷◌, ◌++◌, length, append_assoc, Option, Some, None, ap, refl, sym, subst, ◌∙◌, inl, inr}
 use Rattle.std.specs.Prelude.{◌≢◌, ◌≤◌}
 use Rattle.std.proofs.lemmas.Bool.{cases_eq}
 use Rattle.std.proofs.lemmas.Option.{none-some, same_Some}
@@ -112,14 +112,3 @@ module _ (ports : List Port) (roots inputs : Span) (first old : Diagrams) (next 
       tied = tie_all;
       others = tie_others;
     }
-
--- at the end these are all
-module _ (ports : List Port) (roots inputs : Span) (first d : Diagrams) (next : ℕ) (left : List PortRole) (none : left ≡ []) (all : AreTied ports roots inputs first next left d) where
-  done_is : all.done ≡ ports
-  done_is = sym (append-nil all.done) ∙ ap (λ (rs : List PortRole). all.done ++ ports_by all.place next rs) (sym none) ∙ all.all
-
-  pub tied_all : (p : Port) (s : ℕ) → IsTie ports p s → word_at d inputs s ≡ word_at first roots p.net
-  tied_all p s is = all.tied p s (subst (λ (ps : List Port). IsTie ps p s) (sym done_is) is)
-
-  pub others_all : (s : ℕ) → ((p : Port) → ¬ IsTie ports p s) → word_at d inputs s ≡ word_at first inputs s
-  others_all s not_tied = all.others s (λ p is. not_tied p (subst (λ (ps : List Port). IsTie ps p s) done_is is))

@@ -5,7 +5,6 @@ use Rattle.std.proofs.lemmas.Option.{same_Some}
 use Rattle.channel_parts.specs.PartLists.{AreParts, IsPartList}
 use Rattle.channel_parts.specs.declared.part.Parts.{Parts}
 use Rattle.circuit_faults.proofs.StepLists.{ordered_steps}
-use Rattle.circuit_faults.specs.Keys.{HasAllPorts}
 use Rattle.circuit_faults.specs.Steps.{AreOrderedSteps, InPhase, IsReadyInstance, IsStepThere, in_comparison, step_of}
 use Rattle.circuit_faults.specs.declared.steps.CircuitStep.{CircuitStep}
 use Rattle.constraints.specs.Obliged.{is_named_port}
@@ -54,12 +53,6 @@ module _ (design : Design) (rules : Rules) (c : Circuit) (phase : Phase) (number
       let seen = seen_of i m in
       let below = marked_within marks net.0 (all_among (λ (x : Net). mark_at marks x.0 ≡ true) i.ports net seen.marked there) in
       omega (arith, below, is.observing.len))
-
-  pub all_ports : All (HasAllPorts design) c.instances
-  all_ports = all_by (HasAllPorts design) c.instances (λ i m. (let seen = seen_of i m in seen.ports))
-
-  pub all_nets : All (λ (i : FlatInstance). All (IsNet c) i.ports) c.instances
-  all_nets = all_by (λ (i : FlatInstance). All (IsNet c) i.ports) c.instances nets_of
 
   -- ---- steps
 

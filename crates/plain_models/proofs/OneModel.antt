@@ -183,10 +183,6 @@ module _ (m : PlainModel) (good : IsPlainModel m) where
 
   -- ---- the interface
 
-  -- the signals of one card, with those of the cards around it, of which there are none
-  abbrev signals : List ℕ → List Listed
-  signals word = flat_map (signals_on word) (cards_from 2 body)
-
   no_signals : (word : List ℕ) → bytes_eq (codes ".names") (46 ∷ word) ≡ false → (line : ℕ) → flat_map (signals_on (46 ∷ word)) (cards_from line (flat_map cover_lines m.covers)) ≡ []
   no_signals word apart line =
       none_listed (has_first (46 ∷ word)) (λ (card : Card). map (listed_on card.line) (behind card.words)) line (flat_map cover_lines m.covers) (covers_are_no word apart m.covers each)

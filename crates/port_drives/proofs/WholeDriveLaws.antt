@@ -32,9 +32,6 @@ module _ (k : Comparison) (cut : Cut) (blif : Blif) (facts : List CellFacts) (po
 
   -- ---- what meets the net
 
-  channel : Device → Bool
-  channel d = d.left.0 == n || d.right.0 == n
-
   no_channels : meets_channel k.circuit.devices n ≡ false → (m : ℕ) → m ≡ n → (d : Device) → Among (channels_at k.circuit.devices m) d → ⊥
   no_channels none m same d on =
       let from = filter_among (λ (x : Device). x.left.0 == m || x.right.0 == m) k.circuit.devices d on in

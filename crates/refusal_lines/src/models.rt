@@ -3,7 +3,7 @@
 ghost use Rattle.std.specs.Prelude.{◌≡◌, ◌≢◌, IfOk};
 ghost use Rattle.refusal_lines.specs.Lines.{models_line};
 
-use crate::lines::refusal;
+use crate::lines::{named, plain};
 use blif_checks::ModelFault;
 use std::alloc::Global;
 use vrt_model::{NoMemory, Text};
@@ -14,42 +14,24 @@ pub fn models_refusal(alloc: Global, file: &[u8], fault: &ModelFault) -> Result<
     ensures { IfOk result (λ text. text ≡ models_line file.now fault.now) }
 {
     match fault {
-        ModelFault::UnknownModel { line, name } => refusal(
-            alloc,
-            file,
-            *line,
-            b"no model ",
-            name.as_bytes(),
-        ),
-        ModelFault::Formals { line, name } => refusal(
+        ModelFault::UnknownModel { line, name } => named(alloc, file, *line, b"no model ", name),
+        ModelFault::Formals { line, name } => named(
             alloc,
             file,
             *line,
             b"tie does not fit: ",
-            name.as_bytes(),
+            name,
         ),
-        ModelFault::Recursion { line, name } => refusal(
+        ModelFault::Recursion { line, name } => named(
             alloc,
             file,
             *line,
             b"model contains itself: ",
-            name.as_bytes(),
+            name,
         ),
-        ModelFault::Depth { line, .. } => refusal(alloc, file, *line, b"deeper than 32", b""),
-        ModelFault::DrivenTwice { line, name } => refusal(
-            alloc,
-            file,
-            *line,
-            b"two drivers: ",
-            name.as_bytes(),
-        ),
-        ModelFault::Undriven { line, name } => refusal(
-            alloc,
-            file,
-            *line,
-            b"no driver: ",
-            name.as_bytes(),
-        ),
-        ModelFault::NoMemory => Err(NoMemory),
+        ModelFault::Depth { line, .. } => plain(alloc, file, *line, b"deeper than 32"),
+        ModelFault::DrivenTwice { line, name } => named(alloc, file, *line, b"two drivers: ", name),
+        ModelFault::Undriven { line, name } => named(alloc, file, *line, b"no driver: ", name),
+        ModelFault::NoMemory => unreachable!(),
     }
 }

@@ -3,7 +3,7 @@
 ghost use Rattle.std.specs.Prelude.{◌≡◌, ◌≢◌, IfOk};
 ghost use Rattle.refusal_lines.specs.Lines.{rules_line};
 
-use crate::lines::refusal;
+use crate::lines::{named, plain};
 use rules_reader::RulesFault;
 use std::alloc::Global;
 use vrt_model::{NoMemory, Text};
@@ -14,32 +14,14 @@ pub fn rules_refusal(alloc: Global, file: &[u8], fault: &RulesFault) -> Result<T
     ensures { IfOk result (λ text. text ≡ rules_line file.now fault.now) }
 {
     match fault {
-        RulesFault::NotText { line } => refusal(alloc, file, *line, b"byte that is not text", b""),
-        RulesFault::Word { line } => refusal(alloc, file, *line, b"line does not fit", b""),
-        RulesFault::Number { line } => refusal(alloc, file, *line, b"number does not fit", b""),
-        RulesFault::Expr { line } => refusal(alloc, file, *line, b"expression does not fit", b""),
-        RulesFault::Twice { line, name } => refusal(
-            alloc,
-            file,
-            *line,
-            b"given twice: ",
-            name.as_bytes(),
-        ),
-        RulesFault::UnknownPhase { line, name } => refusal(
-            alloc,
-            file,
-            *line,
-            b"no phase ",
-            name.as_bytes(),
-        ),
-        RulesFault::UnknownClock { line, name } => refusal(
-            alloc,
-            file,
-            *line,
-            b"no clock ",
-            name.as_bytes(),
-        ),
-        RulesFault::Limit { line } => refusal(alloc, file, *line, b"limit passed", b""),
-        RulesFault::NoMemory => Err(NoMemory),
+        RulesFault::NotText { line } => plain(alloc, file, *line, b"byte that is not text"),
+        RulesFault::Word { line } => plain(alloc, file, *line, b"line does not fit"),
+        RulesFault::Number { line } => plain(alloc, file, *line, b"number does not fit"),
+        RulesFault::Expr { line } => plain(alloc, file, *line, b"expression does not fit"),
+        RulesFault::Twice { line, name } => named(alloc, file, *line, b"given twice: ", name),
+        RulesFault::UnknownPhase { line, name } => named(alloc, file, *line, b"no phase ", name),
+        RulesFault::UnknownClock { line, name } => named(alloc, file, *line, b"no clock ", name),
+        RulesFault::Limit { line } => plain(alloc, file, *line, b"limit passed"),
+        RulesFault::NoMemory => unreachable!(),
     }
 }

@@ -30,6 +30,6 @@ pub fn spice_refusal(alloc: Global, file: &[u8], fault: &SpiceFault) -> Result<T
         }
         SpiceFault::PortTwice { line, name } => named(alloc, file, *line, b"port twice: ", name),
         SpiceFault::Limit { line } => plain(alloc, file, *line, b"limit passed"),
-        SpiceFault::NoMemory => Err(NoMemory),
+        SpiceFault::NoMemory => unreachable!(),
     }
 }

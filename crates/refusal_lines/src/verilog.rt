@@ -27,6 +27,6 @@ pub fn verilog_refusal(alloc: Global, file: &[u8], fault: &VerilogFault) -> Resu
         }
         VerilogFault::Unfinished { line } => plain(alloc, file, *line, b"module not ended"),
         VerilogFault::Limit { line } => plain(alloc, file, *line, b"limit passed"),
-        VerilogFault::NoMemory => Err(NoMemory),
+        VerilogFault::NoMemory => unreachable!(),
     }
 }

@@ -4,7 +4,7 @@ use Rattle.std.specs.Prelude.{nat_lt, ◌==◌}
 use Rattle.std.proofs.lemmas.Bool.{and_left, and_parts, and_right, cases_Bool, eq-eqb, eqb-true, false_from_ne_true, false≢true, ltb-true, or_cases}
 use Rattle.cell_inside.specs.Inside.{Touches}
 use Rattle.cell_inside.specs.Placed.{IsImage, IsPlaced, IsSupply}
-use Rattle.cell_inside.specs.Shifted.{IsWithinDepth, top_alone}
+use Rattle.cell_inside.specs.Shifted.{IsWithinDepth}
 use Rattle.checked_chain.proofs.ChoiceLaws.{numbered_at}
 use Rattle.checked_chain.proofs.DriveLaws.{last_there, nothing_in, other_instance, outputs_more}
 use Rattle.placed_cells.proofs.CutLaws.{cut_shows_inside}
@@ -69,9 +69,6 @@ module _ (cut : Cut) (blif : Blif) (facts : List CellFacts) (i : ℕ) (p : Numbe
 
   abbrev k : Comparison
   k = compared_at cut.top blif p m
-
-  abbrev own : Top
-  own = top_alone cut.top p.at.cell k.pairing.ports
 
   abbrev at : ℕ → ℕ
   at n = net_above cut.top p.at n

@@ -2,7 +2,7 @@
 use Rattle.std.proofs.Common.{◌≡◌, ◌++◌, ◌∷◌, ◌⊎◌, [], ℕ, List, false, Some, None, length, take, refl, ap, ap₂, sym, subst, ◌∙◌}
 use Rattle.text_lines.specs.Faults.{IsClean, IsFirst}
 use Rattle.text_lines.proofs.FaultLaws.{clean, first}
-use Rattle.text_lines.proofs.ReadLaws.{all_read, begins, card_fails, card_more}
+use Rattle.text_lines.proofs.ReadLaws.{all_read, card_fails, card_more}
 use Rattle.rules_reader.specs.Learned.{Reads, learned}
 use Rattle.rules_reader.specs.Entries.{cards_left, cards_of}
 use Rattle.rules_reader.proofs.CardLaws.{all_left}
@@ -18,10 +18,6 @@ use Rattle.vrt_model.specs.Levels.{usual_scale}
 -- the fault by the count and what is known is that by the lines
 by_cards : (cards left listed : List Card) (known : Known) (card : Card) (r : Reads cards left known listed) → fault_of (take r.place cards) card ≡ fault_by (length listed) known card
 by_cards cards left listed known card r = ap₂ (λ cs k. fault_by (length cs) k card) (sym r.holds) (sym r.tells)
-
--- nothing is read at first
-pub begins_reading : (cards left listed : List Card) (known : Known) → left ≡ cards → known ≡ known_by [] → listed ≡ [] → Reads cards left known listed
-begins_reading cards left listed known all e none = begins known_by fault_of (λ read. listed ≡ read) cards left known all e none
 
 -- one line more
 pub reads_card : (cards left rest listed new : List Card) (known next : Known) (card : Card) → Reads cards left known listed → left ≡ card ∷ rest → fault_by (length listed) known card ≡ None

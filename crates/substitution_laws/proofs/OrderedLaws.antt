@@ -17,13 +17,14 @@ use Rattle.substitution_laws.proofs.ChosenLaws.{chosen_instances_are_steps}
 use Rattle.substitution_laws.proofs.EndsLaws.{chosen_ends_are_shown}
 use Rattle.substitution_laws.proofs.SeenNets.{seen_within}
 use Rattle.substitution_laws.proofs.OriginalLaws.{place_of_original}
-use Rattle.substitution_laws.proofs.WholeCells.{count_nets, ports_at, whole_chosen, wholes_are_determined}
+use Rattle.substitution_laws.proofs.WholeCells.{ports_at, whole_chosen, wholes_are_determined}
 use Rattle.substitution_laws.proofs.WholeRanges.{circuits_have_ranges}
 use Rattle.substitution_laws.specs.Chosen.{IsChoiceByFacts}
 use Rattle.substitution_laws.specs.Agreement.{IsCheckedByFacts}
 use Rattle.substitution_laws.specs.FirstFaults.{ChainCircuitsAreOrdered}
 use Rattle.substitution_laws.specs.StepDowns.{whole_instances}
 use Rattle.told_circuits.proofs.ToldLaws.{known_nets_have_test}
+use Rattle.paired_ports.proofs.PortLists.{net_for_each}
 use Rattle.vrt_model.proofs.Filtered.{device_among}
 use Rattle.vrt_model.proofs.Lists.{at_map, map_among, map_at, one_at}
 use Rattle.vrt_model.proofs.Members.{any_among}
@@ -119,7 +120,7 @@ module _ (k : Comparison) (cut : Cut) (blif : Blif) (facts : List CellFacts) (c 
       let listed : Among (named_by t (flat_instance p.at)) net =
       subst (λ (z : FlatInstance). Among (named_by t z) net) (sym from.3) (subst (λ (u : Top). Among (named_by u y) net) (sym h.top) named) in
       let found = named_from (test_of t (flat_instance p.at)) cell.ports (flat_instance p.at).ports net listed in
-      let port = port_named 0 cell.ports (port_nets t.rules cell.ports) q.pairing.ports found.0 found.1 (count_nets t.rules 2 cell.ports) step.1.roles.each found.3 in
+      let port = port_named 0 cell.ports (port_nets t.rules cell.ports) q.pairing.ports found.0 found.1 (net_for_each t.rules 2 cell.ports) step.1.roles.each found.3 in
       let above : found.2.0 ≡ at port.0.net = net_at_port cut blif facts h.choice chosen.0 p step.0 step.1 step.2 found.0 port.0 found.2 port.1 found.4 in
       let pins : (x : CellPort) → Among (ports_of q) x → Among (pins_of q p.at) (pin_at at x) =
       λ x m. subst (λ (ps : List Pin). Among ps (pin_at at x)) (sym (pins_shifted cut blif facts chosen.0 p step.0 step.1)) (map_among (pin_at at) (ports_of q) x m) in

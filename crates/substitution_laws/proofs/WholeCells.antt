@@ -1,5 +1,5 @@
 -- Whole instances of the circuits of a chain stand for their cells.
-use Rattle.std.proofs.Common.{◌≡◌, ℕ, zero, suc, ◌<◌, ◌&&◌, Bool, true, false, not, List, [], ◌∷◌, map, length, Option, Some, None, cond, refl, ap, sym, ◌∙◌, subst, arith, inl, inr}
+use Rattle.std.proofs.Common.{◌≡◌, ℕ, zero, suc, ◌<◌, ◌&&◌, Bool, true, false, not, List, [], ◌∷◌, map, length, Option, refl, ap, sym, ◌∙◌, subst, arith, inl, inr}
 use Rattle.std.specs.Prelude.{drop, filter, nat_lt, option_map, unwrap_or}
 use Rattle.std.proofs.lemmas.Bool.{and_from, and_parts, cases_Bool, false≢true}
 use Rattle.std.proofs.lemmas.Simd.{map-map}
@@ -23,13 +23,14 @@ use Rattle.substitution_laws.proofs.FormedCells.{formed_cell}
 use Rattle.substitution_laws.proofs.LogicCells.{chosen_cells_are_logic, input_of, split}
 use Rattle.substitution_laws.specs.Chosen.{IsChoiceByFacts}
 use Rattle.substitution_laws.specs.Wholes.{WholesAreDetermined, WholesStandForCells}
+use Rattle.paired_ports.proofs.PortLists.{net_for_each}
 use Rattle.vrt_model.proofs.Filtered.{among_kept, filter_among}
 use Rattle.vrt_model.proofs.Lists.{map_among}
 use Rattle.vrt_model.proofs.Members.{among_any, among_map, any_among}
-use Rattle.vrt_model.specs.CellRules.{is_constrained, supply_of}
+use Rattle.vrt_model.specs.CellRules.{is_constrained}
 use Rattle.vrt_model.specs.Checked.{IsCircuitWith, before, circuit_with, top_of, with_circuit}
 use Rattle.vrt_model.specs.CheckedParts.{checked_devices, checked_instances}
-use Rattle.vrt_model.specs.Comparison.{CellPort, Comparison, cell_at, is_observed, phase_at, port_nets, port_nets_from, ports_from, ports_of}
+use Rattle.vrt_model.specs.Comparison.{CellPort, Comparison, cell_at, is_observed, phase_at, port_nets, ports_from, ports_of}
 use Rattle.vrt_model.specs.Constraints.{given_bit, given_by_kind}
 use Rattle.vrt_model.specs.Cut.{Cut, NumberedPlace, is_inside, is_inside_whole, is_whole, numbered_places, whole_places}
 use Rattle.vrt_model.specs.Faults.{BreaksConstraint}
@@ -48,7 +49,6 @@ use Rattle.vrt_model.specs.declared.circuit.FlatInstance.{FlatInstance}
 use Rattle.vrt_model.specs.declared.circuit.FlatNet.{FlatNet}
 use Rattle.vrt_model.specs.declared.circuit.NetKind.{NetKind}
 use Rattle.vrt_model.specs.declared.pairing.PortRole.{PortRole}
-use Rattle.vrt_model.specs.declared.rules.Rules.{Rules}
 use Rattle.vrt_model.specs.declared.whole.CellFacts.{CellFacts}
 use Rattle.vrt_model.specs.declared.whole.Whole.{Whole}
 use Rattle.vrt_model.specs.declared.whole.WholePin.{WholePin}
@@ -103,15 +103,6 @@ nets_of_ports first (x ∷ names) (n ∷ nets) [] a b = absurd (omega (arith, b)
 nets_of_ports first (x ∷ names) (n ∷ nets) (r ∷ roles) a b =
     ap (λ (rest : List ℕ). n ∷ rest) (nets_of_ports (suc first) names nets roles (omega (arith, a)) (omega (arith, b)))
 
-pub count_nets : (rules : Rules) (next : ℕ) (names : List (List ℕ)) → length (port_nets_from rules next names) ≡ length names
-count_nets rules next [] = refl
-count_nets rules next (x ∷ names) = by_supply (supply_of rules x) (λ n. count_nets rules n names)
-  where
-    by_supply : (o : Option Bool) → ((n : ℕ) → length (port_nets_from rules n names) ≡ length names)
-        → length {A = ℕ} (elim o [ None ↦ next ∷ port_nets_from rules (suc next) names | Some value ↦ cond value 1 0 ∷ port_nets_from rules next names ]) ≡ suc (length names)
-    by_supply None rest = ap suc (rest (suc next))
-    by_supply (Some value) rest = ap suc (rest next)
-
 -- ---- instances that are shown
 
 -- what is inside a whole instance stays so where more are whole
@@ -157,7 +148,7 @@ module _ (cut : Cut) (blif : Blif) (facts : List CellFacts) (h : IsChoiceByFacts
   ports_at =
       let nets = port_nets t.rules names in
       (instances_are_shifted t q.pairing.ports p.at (tied cut blif facts i p m step)).0.ports
-      ∙ ap (map at) (sym (nets_of_ports 0 names nets q.pairing.ports (count_nets t.rules 2 names) step.roles.each))
+      ∙ ap (map at) (sym (nets_of_ports 0 names nets q.pairing.ports (net_for_each t.rules 2 names) step.roles.each))
       ∙ map-map at (λ (port : CellPort). port.net) (ports_of q)
 
   cell_there : p.at.cell < length t.design.cells

@@ -1,4 +1,3 @@
 pub mod EntryLaws
 pub mod FitLaws
-pub mod ListLaws
 pub mod ModelLaws

@@ -1,9 +1,9 @@
 -- The fault of a token, from those that are judged one by one.
 use Rattle.std.proofs.Common.{◌≡◌, ◌⊎◌, ◌∷◌, [], ◌&&◌, inl, inr, ℕ, List, Bool, true, false, not, Option, Some, None, is_none, refl, ap, sym, ◌∙◌}
 use Rattle.text_lines.specs.Faults.{first_of, when}
-use Rattle.verilog_source.specs.Known.{Gathered, Known, learned, learned_by}
+use Rattle.verilog_source.specs.Known.{Gathered, Known}
 use Rattle.verilog_source.specs.Places.{Place, Step, step}
-use Rattle.verilog_source.specs.Places.Place.{Outside, Body, ModuleWord, ModuleName, PortWanted, PortDirection, PortWire, PortRead, PortsRead, DirectionWord, NameWanted, NameRead, TargetWanted, TargetRead, ValueOpen, GateWanted, GateNamed, OutputWanted, OutputRead, TerminalWanted, TerminalOpen, GateRead, InstanceWanted, InstanceNamed, TieWanted, TieDot, TiePort, TieOpen, ActualRead, TieRead, InstanceRead}
+use Rattle.verilog_source.specs.Places.Place.{Body, ModuleWord}
 use Rattle.verilog_source.specs.Refused.{ends_module, fault_by, fault_within, is_end, later_faults, module_name, next_fault, open_line, passes_limit, port_fault, sign_fault, twice_by, unfinished}
 use Rattle.verilog_source.specs.declared.faults.VerilogFault.{VerilogFault}
 use Rattle.verilog_source.specs.declared.faults.VerilogFault.TheVariants.{Limit, NoMemory, Syntax}
@@ -21,83 +21,6 @@ judged_within k t o st f modules ports directions b e same_modules same_ports sa
     ∙ ap (λ x. next_fault k.modules x directions k.place b t.line t.sign) same_ports
     ∙ ap (λ x. next_fault k.modules k.ports x k.place b t.line t.sign) same_directions
     ∙ ap (λ x. next_fault k.modules k.ports k.directions k.place x t.line t.sign) same_limit) ∙ h)
-
--- ---- the end of a text takes no step
-
-no_end : (p : Place) (line : ℕ) → step p line End ≡ None
-no_end Outside line = refl
-no_end Body line = refl
-no_end (ModuleWord l) line = refl
-no_end (ModuleName l) line = refl
-no_end (PortWanted l d) line = refl
-no_end (PortDirection l e) line = refl
-no_end (PortWire l e) line = refl
-no_end (PortRead l d) line = refl
-no_end PortsRead line = refl
-no_end (DirectionWord l e) line = refl
-no_end (NameWanted l d) line = refl
-no_end (NameRead l d) line = refl
-no_end (TargetWanted l) line = refl
-no_end (TargetRead l n) line = refl
-no_end (ValueOpen l n r) line = refl
-no_end (GateWanted l k) line = refl
-no_end (GateNamed l k) line = refl
-no_end (OutputWanted l k) line = refl
-no_end (OutputRead l k o) line = refl
-no_end (TerminalWanted g) line = refl
-no_end (TerminalOpen g n r) line = refl
-no_end (GateRead l k) line = refl
-no_end (InstanceWanted l m) line = refl
-no_end (InstanceNamed l m) line = refl
-no_end (TieWanted i) line = refl
-no_end (TieDot i) line = refl
-no_end (TiePort i p) line = refl
-no_end (TieOpen i p) line = refl
-no_end (ActualRead i p a) line = refl
-no_end (TieRead i) line = refl
-no_end (InstanceRead l m) line = refl
-
-no_comment : (p : Place) (line : ℕ) → step p line OpenComment ≡ None
-no_comment Outside line = refl
-no_comment Body line = refl
-no_comment (ModuleWord l) line = refl
-no_comment (ModuleName l) line = refl
-no_comment (PortWanted l d) line = refl
-no_comment (PortDirection l e) line = refl
-no_comment (PortWire l e) line = refl
-no_comment (PortRead l d) line = refl
-no_comment PortsRead line = refl
-no_comment (DirectionWord l e) line = refl
-no_comment (NameWanted l d) line = refl
-no_comment (NameRead l d) line = refl
-no_comment (TargetWanted l) line = refl
-no_comment (TargetRead l n) line = refl
-no_comment (ValueOpen l n r) line = refl
-no_comment (GateWanted l k) line = refl
-no_comment (GateNamed l k) line = refl
-no_comment (OutputWanted l k) line = refl
-no_comment (OutputRead l k o) line = refl
-no_comment (TerminalWanted g) line = refl
-no_comment (TerminalOpen g n r) line = refl
-no_comment (GateRead l k) line = refl
-no_comment (InstanceWanted l m) line = refl
-no_comment (InstanceNamed l m) line = refl
-no_comment (TieWanted i) line = refl
-no_comment (TieDot i) line = refl
-no_comment (TiePort i p) line = refl
-no_comment (TieOpen i p) line = refl
-no_comment (ActualRead i p a) line = refl
-no_comment (TieRead i) line = refl
-no_comment (InstanceRead l m) line = refl
-
-ends_step : (p : Place) (line : ℕ) (s : Sign) → is_end s ≡ true → step p line s ≡ None
-ends_step p line End e = no_end p line
-ends_step p line OpenComment e = no_comment p line
-ends_step p line _ e = cc
-
--- nothing is learned of it
-pub end_known : (k : Known) (t : Token) → is_end t.sign ≡ true → k ≡ learned k t
-end_known k t e = sym (ap (learned_by k t) (ends_step k.place t.line t.sign e))
 
 -- ---- the first of the faults
 

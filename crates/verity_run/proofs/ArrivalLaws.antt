@@ -1,7 +1,6 @@
 -- Arrival orders of a cell: its verdict, and what is told of an equal one.
 use Rattle.std.proofs.Common.{◌≡◌, ◌≢◌, ◌<◌, ◌≤◌, ◌+◌, ◌++◌, ◌∷◌, [], ℕ, Bool, true, false, cond, List, Option, Some, None, ap, eqb, get_or, inl, inr, length, refl, subst, sym, take, ◌∙◌}
-use Rattle.std.specs.Prelude.{IfSome, bytes_eq}
-use Rattle.std.specs.Str.{str_to_ascii_lowercase}
+use Rattle.std.specs.Prelude.{IfSome}
 use Rattle.std.proofs.lemmas.Bool.{eqb-true, false≢true}
 use Rattle.std.proofs.lemmas.List.{map-append, take_all, take_more}
 use Rattle.std.proofs.lemmas.Option.{none-some, same_Some}
@@ -17,7 +16,6 @@ use Rattle.mode_lines.specs.Lists.{Tells as TellsFault}
 use Rattle.mode_lines.specs.declared.valuations.AtFault.{AtFault}
 use Rattle.mode_lines.specs.declared.valuations.AtFault.TheVariants.{NoSuchName, Twice, NoMemory as NoAtMemory}
 use Rattle.mode_lines.specs.NameLists.{names_in}
-use Rattle.names.proofs.PlaceLaws.{placed_within}
 use Rattle.verity_run.proofs.ReplayLaws.{supported_with, tells_by}
 use Rattle.verity_run.specs.Arrivals.{HasArrivalLine, HasVerdict, IsAnswerOn, IsArrival, IsArrivalOf, IsEqualWith, IsFound, IsFoundSoFar, IsJudgedAs, IsNoRising, OfArrival, counted_arrival, is_equal_verdict}
 use Rattle.verity_run.specs.Asked.{AreAsked}
@@ -39,7 +37,6 @@ use Rattle.vrt_model.specs.Unsupported.{IsSupported, comparison_of}
 use Rattle.vrt_model.specs.Verdicts.{Answer}
 use Rattle.vrt_model.specs.declared.blif.Blif.{Blif}
 use Rattle.vrt_model.specs.declared.design.Design.{Design}
-use Rattle.vrt_model.specs.declared.rules.Phase.{Phase}
 use Rattle.vrt_model.specs.declared.rules.Rules.{Rules}
 use Rattle.vrt_model.specs.declared.verdict.Verdict.{Verdict}
 use Rattle.vrt_model.specs.declared.verdict.Verdict.TheVariants.{Equal, Skipped, Fault, Vacuous, Budget, Unsupported}
@@ -190,10 +187,6 @@ pub judged_as : (design : Design) (blif : Blif) (rules : Rules) (budget : ℕ) (
     → (verdict : Verdict) → HasVerdict design blif rules budget cells n verdict → P n verdict → IsJudgedAs design blif rules budget word P
 judged_as design blif rules budget word n cells P there asked verdict has holds =
     (n, there, (cells, subst (λ (m : ℕ). AreBelow design m (cell_order design) cells) (same_Some asked.0 n (sym asked.1 ∙ there)) asked.2, (verdict, has, holds)))
-
--- a phase that was found is one of the rules
-pub phase_within : (rules : Rules) (word : List ℕ) (p : ℕ) → phase_asked rules word ≡ Some p → p < length rules.phases
-phase_within rules word p e = placed_within (λ (q : Phase). bytes_eq q.name (str_to_ascii_lowercase word)) rules.phases p e
 
 module _ (design : Design) (blif : Blif) (rules : Rules) (budget : ℕ) (cell phase rise : List ℕ) (place n : ℕ) (names : List (List ℕ)) (cells : List ℕ) (j : Judged)
     (in_phase : phase_asked rules phase ≡ Some place) (names_are : names_in rise ≡ Some names) (there : cell_asked design cell ≡ Some n) (asked : AreAsked design (Some cell) cells)

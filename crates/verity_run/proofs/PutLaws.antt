@@ -1,6 +1,6 @@
 -- What is written by several puts, and how a run ends.
 use Rattle.std.proofs.Common.{◌≡◌, ◌≤◌, ◌<◌, ◌+◌, inl, inr, ◌∷◌, ◌++◌, [], ℕ, zero, suc, List, drop, get_or, length, take, Option, Some, None, refl, sym, ap, ◌∙◌, append-nil, append_assoc, subst, arith}
-use Rattle.std.proofs.lemmas.List.{drop_more, take_all, take_more}
+use Rattle.std.proofs.lemmas.List.{drop_more, take_more}
 use Rattle.std.specs.Io.KnownBytes.{Appends, Keeps}
 use Rattle.vrt_io.specs.Causes.{Rose}
 use Rattle.verity_run.specs.Messages.{joined}
@@ -85,10 +85,6 @@ lines_stop lines i line given end old mid new before between now lt is same put 
 
   whole : joined lines ≡ joined (take i lines) ++ (line ++ joined (drop (i + 1) lines))
   whole = ap joined (split_at i lines ∙ ap (λ t. take i lines ++ t) rest) ∙ joined_behind (take i lines) (line ∷ drop (i + 1) lines)
-
--- all lines were put
-pub lines_end : (lines : List (List ℕ)) (i : ℕ) (old new : Option (List ℕ)) → length lines ≤ i → Appends old new (joined (take i lines)) → Appends old new (joined lines)
-lines_end lines i old new past put = subst (λ (ls : List (List ℕ)). Appends old new (joined ls)) (take_all i lines past) put
 
 -- ---- ends
 

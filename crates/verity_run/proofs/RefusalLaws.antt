@@ -4,25 +4,20 @@ use Rattle.std.specs.Prelude.{[], codes, IfOk, MatchResult}
 use Rattle.blif_checks.specs.Checked.{IsModelFault}
 use Rattle.blif_checks.specs.declared.faults.ModelFault.{ModelFault}
 use Rattle.blif_checks.specs.declared.faults.ModelFault.TheVariants.{NoMemory as ModelsMemory}
-use Rattle.hierarchy.specs.Order.{IsHierFault}
-use Rattle.hierarchy.specs.declared.faults.HierFault.{HierFault}
-use Rattle.hierarchy.specs.declared.faults.HierFault.TheVariants.{NoMemory as CellsMemory}
 use Rattle.refusal_lines.specs.Lines.{models_line, refusal_line}
 use Rattle.rules_reader.specs.Refused.{fault_of as rules_fault_of}
 use Rattle.spice_reader.specs.Refused.{IsNetlist}
 use Rattle.text_lines.specs.Faults.{IsClean}
 use Rattle.verity_run.specs.Given.{ByFile, Given, netlist_cards, rules_cards}
-use Rattle.verity_run.specs.Messages.{cells_line}
 use Rattle.verity_run.specs.Models.{AreModelsOf}
 use Rattle.verity_run.specs.Reads.{Source, StopsBy}
-use Rattle.verity_run.specs.Refusals.{IsRefusal, OfOrder, OfRules, OfUnrolling, Tells, TellsFiles, TellsStop}
+use Rattle.verity_run.specs.Refusals.{IsRefusal, OfRules, OfUnrolling, Tells, TellsFiles, TellsStop}
 use Rattle.verity_run.specs.declared.reads.Stop.{Stop}
 use Rattle.verity_run.specs.declared.refusals.Refusal.{Refusal}
 use Rattle.verity_run.specs.declared.refusals.Refusal.TheVariants.{Unread, Told, NoMemory}
 use Rattle.vrt_model.specs.Comparison.{cell_at}
 use Rattle.vrt_model.specs.declared.blif.Blif.{Blif}
 use Rattle.vrt_model.specs.declared.design.Design.{Design}
-use Rattle.vrt_model.specs.declared.rules.Rules.{Rules}
 
 fault_stands : (blif : Blif) (fault : ModelFault) → fault ≢ ModelsMemory → (fault ≡ ModelsMemory) ⊎ IsModelFault blif fault → IsModelFault blif fault
 fault_stands blif fault other (inl none) = absurd (other none)
@@ -51,18 +46,6 @@ last_told g blif (Told line) netlist models lines told = inr (netlist, inr (blif
 last_told g blif NoMemory netlist models lines told = tt
 
 -- ---- the order of the cells
-
-order_stands : (design : Design) (rules : Rules) (fault : HierFault) → fault ≢ CellsMemory → (fault ≡ CellsMemory) ⊎ IsHierFault design rules fault → IsHierFault design rules fault
-order_stands design rules fault other (inl none) = absurd (other none)
-order_stands design rules fault other (inr stands) = stands
-
--- the line of cells that have no order
-pub order_told : {E : Type 0} (words : ByFile) (design : Design) (rules : Rules) (fault : HierFault) (line : Result (List ℕ) E) (r : Refusal) → fault ≢ CellsMemory
-    → (fault ≡ CellsMemory) ⊎ IsHierFault design rules fault → IfOk line (λ t. t ≡ cells_line words.spice words.rules design fault)
-    → MatchResult line (λ t. r ≡ Told t) (λ _. r ≡ NoMemory) → Tells (OfOrder words design rules) r
-order_told words design rules fault (Ok text) r other stands told is =
-    subst (Tells (OfOrder words design rules)) (sym is) (record { fault = fault; first = order_stands design rules fault other stands; told = told })
-order_told words design rules fault (Err e) r other stands told is = subst (Tells (OfOrder words design rules)) (sym is) tt
 
 -- the line of a cell that is too deep
 pub depth_line : {E : Type 0} (line : ℕ) (file word : List ℕ) (r : Result (List ℕ) E) → file ≡ word → IfOk r (λ t. t ≡ refusal_line file line (codes "deeper than 32") [])

@@ -1,26 +1,19 @@
 -- A cell at one valuation.
-use Rattle.std.proofs.Common.{◌≡◌, ◌<◌, inl, inr, ℕ, List, Bool, Option, Some, None, Result, Ok, Err, length, refl, ap, ap₂, sym, ◌∙◌, subst, take, drop}
+use Rattle.std.proofs.Common.{◌≡◌, inl, inr, ℕ, List, Bool, Option, None, Result, Ok, Err, refl, ap, ap₂, sym, ◌∙◌, subst, take, drop}
 use Rattle.std.specs.Borrow.{Bor}
 use Rattle.std.specs.Prelude.{bytes_eq, position, IfOk, MatchResult}
 use Rattle.std.specs.Str.{str_to_ascii_lowercase}
-use Rattle.std.specs.Io.KnownBytes.{Appends}
 use Rattle.cell_room.specs.Compared.{IsFlattened, comparison}
 use Rattle.cell_room.specs.Flat.{Flattened}
-use Rattle.mode_lines.specs.Lists.{Tells as TellsFault, fault_at}
 use Rattle.mode_lines.specs.Points.{AreVariables, comparison_with, meets_with, setting_with}
 use Rattle.mode_lines.specs.Lines.{replay_lines}
-use Rattle.mode_lines.specs.declared.lists.AtItem.{AtItem}
 use Rattle.mode_lines.specs.declared.points.CellPhase.{CellPhase}
-use Rattle.mode_lines.specs.declared.valuations.AtFault.{AtFault}
-use Rattle.mode_lines.specs.declared.valuations.AtFault.TheVariants.{NoSuchName, Twice, NoMemory as NoAtMemory}
-use Rattle.names.proofs.PlaceLaws.{placed_within}
 use Rattle.verity_run.proofs.ClassLaws.{same_model}
 use Rattle.verity_run.proofs.PutLaws.{split_at}
-use Rattle.verity_run.specs.Named.{cell_asked}
 use Rattle.verity_run.specs.Refusals.{Tells}
-use Rattle.verity_run.specs.Replays.{BeginsReplay, HasValueLines, IsNoPhase, IsNoValuation, IsPointOf, IsReplayed, IsShown, IsSupportedWith, RefusesFault}
-use Rattle.verity_run.specs.Messages.{joined, no_name_line}
-use Rattle.verity_run.specs.Reports.{IsEnded, with_count}
+use Rattle.verity_run.specs.Replays.{BeginsReplay, HasValueLines, IsNoPhase, IsPointOf, IsReplayed, IsSupportedWith}
+use Rattle.verity_run.specs.Messages.{no_name_line}
+use Rattle.verity_run.specs.Reports.{with_count}
 use Rattle.verity_run.specs.Runs.{AnswersReplay, Ends, StopsLines}
 use Rattle.verity_run.specs.declared.refusals.Refusal.{Refusal}
 use Rattle.verity_run.specs.declared.refusals.Refusal.TheVariants.{Unread, Told, NoMemory}
@@ -31,7 +24,7 @@ use Rattle.vrt_model.specs.Comparison.{Comparison, cell_at, phase_at}
 use Rattle.vrt_model.specs.Constraints.{meets}
 use Rattle.vrt_model.specs.FlatCircuit.{flat_circuit}
 use Rattle.vrt_model.specs.Groups.{groups_of}
-use Rattle.vrt_model.specs.Held.{setting_of, sources_of, variable_names}
+use Rattle.vrt_model.specs.Held.{setting_of, sources_of}
 use Rattle.vrt_model.specs.PairedPorts.{pairing_of}
 use Rattle.vrt_model.specs.Unsupported.{IsSupported, comparison_of}
 use Rattle.vrt_model.specs.Variables.{variables_of}
@@ -119,19 +112,6 @@ module _ (s : CellPhase) (design : Design) (rules : Rules) (n place : ℕ) (f : 
 
 -- ---- refusals
 
--- names and bits that give no valuation
-pub no_valuation : (k : Comparison) (place : ℕ) (names : List (List ℕ)) (items : List AtItem) (fault : AtFault) (r : Refusal) → names ≡ variable_names k place
-    → TellsFault (fault_at names items) fault → RefusesFault fault r → Tells (IsNoValuation k place items) r
-no_valuation k place names items (NoSuchName name) (Unread line) same first told = absurd told
-no_valuation k place names items (NoSuchName name) (Told line) same first told =
-    record { fault = NoSuchName name; first = ap (λ (ns : List (List ℕ)). fault_at ns items) (sym same) ∙ first; told = told }
-no_valuation k place names items (NoSuchName name) NoMemory same first told = tt
-no_valuation k place names items (Twice name) (Unread line) same first told = absurd told
-no_valuation k place names items (Twice name) (Told line) same first told =
-    record { fault = Twice name; first = ap (λ (ns : List (List ℕ)). fault_at ns items) (sym same) ∙ first; told = told }
-no_valuation k place names items (Twice name) NoMemory same first told = tt
-no_valuation k place names items NoAtMemory r same first told = subst (Tells (IsNoValuation k place items)) (sym told) tt
-
 -- a phase that is not there
 pub no_phase : {E : Type 0} (rules : Rules) (word bytes name key again : List ℕ) (phases : List Phase) (found : Option ℕ) (line : Result (List ℕ) E) (r : Refusal)
     → bytes ≡ word → name ≡ str_to_ascii_lowercase bytes → key ≡ name → again ≡ name → phases ≡ rules.phases → found ≡ None
@@ -144,43 +124,16 @@ no_phase rules word bytes name key again phases found (Ok text) r b n k a ps non
     )
 no_phase rules word bytes name key again phases found (Err e) r b n k a ps none is told ends = subst (Tells (IsNoPhase rules word)) (sym ends) tt
 
--- a cell that was found is one of the netlist
-pub asked_within : (design : Design) (word : List ℕ) (n : ℕ) → cell_asked design word ≡ Some n → n < length design.cells
-asked_within design word n e = placed_within (λ (c : Cell). bytes_eq c.name (str_to_ascii_lowercase word)) design.cells n e
-
 -- a refusal whose line is one of another kind
 pub tells_by : (P Q : List ℕ → Type 0) (r : Refusal) → ((line : List ℕ) → P line → Q line) → Tells P r → Tells Q r
 tells_by P Q (Unread line) f told = absurd told
 tells_by P Q (Told line) f told = f line told
 tells_by P Q NoMemory f told = tt
 
--- a supported cell
-pub refused_with : (design : Design) (blif : Blif) (rules : Rules) (n place : ℕ) (items : List AtItem) (f : Flattened) (r : Refusal) → ((m : ℕ) × IsSupported design blif rules n m)
-    → ((k : ℕ) × IsFlattened design blif rules n k f) → Tells (IsNoValuation (comparison design rules n f) place items) r
-    → Tells (λ line. IsSupportedWith design blif rules n (λ k. IsNoValuation k place items line)) r
-refused_with design blif rules n place items f r early made told =
-    tells_by (IsNoValuation (comparison design rules n f) place items) (λ line. IsSupportedWith design blif rules n (λ k. IsNoValuation k place items line)) r
-    (λ line is. supported_with (λ k. IsNoValuation k place items line) design blif rules n early.0 made.0 f early.1 made.1 is) told
-
-pub shown_supported : (design : Design) (blif : Blif) (rules : Rules) (n place : ℕ) (items : List AtItem) (f : Flattened) (count : Count) (lines : List (List ℕ)) → ((m : ℕ) × IsSupported design blif rules n m)
-    → ((k : ℕ) × IsFlattened design blif rules n k f) → IsShown (comparison design rules n f) place items count lines
-    → IsSupportedWith design blif rules n (λ k. IsShown k place items count lines)
-shown_supported design blif rules n place items f count lines early made shown =
-    supported_with (λ k. IsShown k place items count lines) design blif rules n early.0 made.0 f early.1 made.1 shown
-
 -- ---- ends
 
 module _ (design : Design) (blif : Blif) (rules : Rules) (cell phase : List ℕ) (at : Option (Bor (List ℕ))) (count : Count) (lines : List (List ℕ)) (status : Status) (old new : Option (List ℕ)) (before now : ℕ) where
-  -- all lines were put
-  pub replay_put : IsReplayed design blif rules cell phase at count lines → status ≡ with_count AllEqual count → IsEnded status → Appends old new (joined lines)
-      → Ends (AnswersReplay design blif rules cell phase at) (BeginsReplay design blif rules cell phase at) status old new before now
-  replay_put is counts ended put = record {
-    whole = λ p q. (lines, inr (record { count = count; replayed = is; ended = counts }), put);
-    fault = λ e. absurd (ended.written e);
-    memory = λ e. absurd (ended.had e);
-  }
-
-  -- not all were
+  -- not all lines were put
   pub replay_stops : IsReplayed design blif rules cell phase at count lines → StopsLines status lines old new before now
       → Ends (AnswersReplay design blif rules cell phase at) (BeginsReplay design blif rules cell phase at) status old new before now
   replay_stops is stops = record {

@@ -1,6 +1,6 @@
 -- Reports, cell by cell.
 use Rattle.std.proofs.Common.{◌≡◌, ◌≤◌, ◌<◌, ◌+◌, arith, take, drop, Option, inl, inr, ◌∷◌, ◌++◌, ◌||◌, [], ℕ, List, Bool, true, false, cond, get_or, length, refl, sym, ap, ap₂, ◌∙◌, append_assoc, append-nil, subst}
-use Rattle.std.specs.Io.KnownBytes.{Appends, Keeps}
+use Rattle.std.specs.Io.KnownBytes.{Appends}
 use Rattle.std.specs.List.{list_any}
 use Rattle.std.proofs.lemmas.List.{map-append, take_all, take_more}
 use Rattle.std.proofs.lemmas.List.Elements.{All-append, All-cons, All-nil}
@@ -10,7 +10,7 @@ use Rattle.cell_compare.specs.Cells.{HasRuns, IsComplete}
 use Rattle.verity_run.specs.Asked.{ReportsGenerated}
 use Rattle.verity_run.specs.Messages.{joined, last_line}
 use Rattle.verity_run.specs.Reports.{AreVerdicts, Begins, IsChecked, IsEnded, PutsCell, PutsReport, Reports, ReportsCells, ReportsFrom, ReportsKnowing, StopsCell, StopsReport, answer_lines, counted, is_fault, is_undecided, more, no_cell, no_verdict, none, nothing_known, one_more, one_verdict, status_by, with_count}
-use Rattle.verity_run.specs.Runs.{Ends, PutsLine, StopsLines}
+use Rattle.verity_run.specs.Runs.{Ends, PutsLine}
 use Rattle.verity_run.specs.declared.status.Count.{Count}
 use Rattle.verity_run.specs.declared.status.Count.TheVariants.{Nothing, Pending, Faulty}
 use Rattle.verity_run.specs.declared.status.Status.{Status}
@@ -171,25 +171,6 @@ module _ (IsOf : List CellFacts → ℕ → Count → List (List ℕ) → List C
   pub report_none : (old : Option (List ℕ)) → PutsReport IsOf start [] AllEqual start old old
   report_none old = record { lines = []; reports = no_cell; put = nothing_put old }
 
-  -- the lines of a cell were put
-  pub cell_put : (known then : List CellFacts) (n : ℕ) (count : Count) (lines : List (List ℕ)) (status next : Status) (old new : Option (List ℕ)) → IsOf known n count lines then
-      → next ≡ with_count status count → Appends old new (joined lines) → PutsCell IsOf known n status next then old new
-  cell_put known then n count lines status next old new is counts put = record { count = count; lines = lines; is = is; counts = counts; put = put }
-
-  -- lines of a cell that were not put as a whole
-  pub cell_stops : (known then : List CellFacts) (n : ℕ) (count : Count) (lines : List (List ℕ)) (status : Status) (old new : Option (List ℕ)) (before now : ℕ) → IsOf known n count lines then
-      → StopsLines status lines old new before now → StopsCell IsOf known n status old new before now
-  cell_stops known then n count lines status old new before now is stops = record {
-    stopped = stops.stopped;
-    fault = λ e. let w = stops.fault e in (count, lines, then, is, (w.0, (w.1.0, w.1.1)));
-    memory = λ e. let w = stops.memory e in inr (count, lines, then, is, (w.0, w.1));
-  }
-
-  -- nothing of a cell was put
-  pub nothing_of_cell : (known : List CellFacts) (n : ℕ) (status : Status) (old : Option (List ℕ)) (before now : ℕ) → status ≡ NoMemory → Keeps old old → StopsCell IsOf known n status old old before now
-  nothing_of_cell known n status old before now is kept =
-      record { stopped = inr is; fault = λ e. absurd (memory_is_no_fault status is e); memory = λ e. inl kept }
-
   -- nothing of the report was put
   pub nothing_of_report : (cells : List ℕ) (old : Option (List ℕ)) (before now : ℕ) → StopsReport IsOf start cells NoMemory old old before now
   nothing_of_report cells old before now = record {
@@ -252,11 +233,6 @@ module _ (IsOf : List CellFacts → ℕ → Count → List (List ℕ) → List C
       begun_with cells i n status known then count puts.lines lines (take k lines) (drop k lines) lt is puts.reports of (split_at k lines),
       subst (Appends old new) (sym (joined_behind puts.lines (take k lines))) (appended old mid new (joined puts.lines) (joined (take k lines)) puts.put put),
     )
-
-  -- all cells were reported
-  pub report_end : (cells : List ℕ) (i : ℕ) (status : Status) (known : List CellFacts) (old new : Option (List ℕ)) → length cells ≤ i → PutsReport IsOf start (take i cells) status known old new
-      → PutsReport IsOf start cells status known old new
-  report_end cells i status known old new past puts = subst (λ (xs : List ℕ). PutsReport IsOf start xs status known old new) (take_all i cells past) puts
 
 -- ---- how a report ends
 

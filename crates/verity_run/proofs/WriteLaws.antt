@@ -1,10 +1,8 @@
 -- A cell written as a model: its lines, and how a run ends that puts them.
 use Rattle.std.proofs.Common.{◌≡◌, ◌≢◌, inl, inr, ◌∷◌, [], ℕ, List, Option, drop, refl, subst, take, ◌∙◌}
-use Rattle.std.specs.Io.KnownBytes.{Appends}
 use Rattle.verity_run.proofs.PutLaws.{split_at}
 use Rattle.verity_run.specs.Arrivals.{IsJudgedAs}
-use Rattle.verity_run.specs.Messages.{joined}
-use Rattle.verity_run.specs.Reports.{IsEnded, cell_line, counted, with_count}
+use Rattle.verity_run.specs.Reports.{cell_line, counted, with_count}
 use Rattle.verity_run.specs.Runs.{Ends, StopsLines}
 use Rattle.verity_run.specs.Writes.{BeginsBlif, IsBlifAnswer, IsBlifOf}
 use Rattle.verity_run.specs.declared.status.Count.{Count}
@@ -25,16 +23,7 @@ verdict_alone design blif rules budget cell verdict own count line lines other c
 
 module _ (design : Design) (blif : Blif) (rules : Rules) (budget : ℕ) (word : List ℕ) (count : Count) (lines : List (List ℕ)) (status : Status) (old new : Option (List ℕ)) (before now : ℕ)
     (is : IsJudgedAs design blif rules budget word (IsBlifOf design blif rules budget count lines)) where
-  -- all lines were put
-  pub blif_put : status ≡ with_count AllEqual count → IsEnded status → Appends old new (joined lines)
-      → Ends (IsBlifAnswer design blif rules budget word) (BeginsBlif design blif rules budget word) status old new before now
-  blif_put counts ended put = record {
-    whole = λ p q. (lines, record { count = count; is = is; ended = counts }, put);
-    fault = λ e. absurd (ended.written e);
-    memory = λ e. absurd (ended.had e);
-  }
-
-  -- not all were
+  -- not all lines were put
   pub blif_stops : StopsLines status lines old new before now → Ends (IsBlifAnswer design blif rules budget word) (BeginsBlif design blif rules budget word) status old new before now
   blif_stops stops = record {
     whole = λ p q. absurd (elim stops.stopped [ inl e ↦ p e | inr e ↦ q e ]);

@@ -20,7 +20,7 @@ use Rattle.verity_run.specs.Classes.{IsBudget, IsClassed}
 use Rattle.verity_run.specs.Given.{AreRead, ByFile, Given, generated, given}
 use Rattle.verity_run.specs.Messages.{usage_line}
 use Rattle.verity_run.specs.Reads.{Source}
-use Rattle.verity_run.specs.Refusals.{IsRefusal, OfLength, OfOrder, Tells, TellsFiles}
+use Rattle.verity_run.specs.Refusals.{IsRefusal, OfLength, Tells, TellsFiles}
 use Rattle.verity_run.specs.Ready.{IsGiven, IsMade, IsReadyBy, IsReadyFor}
 use Rattle.verity_run.specs.Replays.{BeginsReplay}
 use Rattle.verity_run.specs.Reports.{Begins as BeginsReport, IsEnded, Reports, ReportsCells}
@@ -166,20 +166,12 @@ generated_answered request size budget words design blif rules nodes cells statu
 -- ---- three texts
 
 module _ (request : Request) (g : Given) (r : Refusal) where
-  -- they are refused
-  pub texts_told : Tells (IsRefusal g) r → TellsAnswer (AnswersTexts request g) r
-  texts_told is = tells_answer (AnswersTexts request g) (IsRefusal g) r (λ line of. inl (refusing (IsRefusal g) line of)) is
-
   module _ (design : Design) (blif : Blif) (rules : Rules) (read : AreRead g design blif rules) where
     -- what they say is barred
     barred : (IsLine : List ℕ → Type 0) → ((line : List ℕ) → IsLine line → IsBarred request g.words design blif rules line) → Tells IsLine r → TellsAnswer (AnswersTexts request g) r
     barred IsLine bars is =
         tells_answer (AnswersTexts request g) IsLine r
         (λ line of. inr (record { design = design; blif = blif; rules = rules; read = read; holds = inl (refusing (IsBarred request g.words design blif rules) line (bars line of)) })) is
-
-    -- the cells have no order
-    pub unordered_told : Tells (OfOrder g.words design rules) r → TellsAnswer (AnswersTexts request g) r
-    unordered_told is = barred (OfOrder g.words design rules) (λ line of. inl of) is
 
     -- a cell is asked for that is not there
     pub unnamed_told : IsOrdered design rules → Tells (OfCellWord design (cell_word request)) r → TellsAnswer (AnswersTexts request g) r

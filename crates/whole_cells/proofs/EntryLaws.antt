@@ -1,6 +1,5 @@
 -- What the instances of a flattened cell have in common, and whether they may be left whole.
-use Rattle.std.proofs.Common.{◌≡◌, ℕ, suc, ◌+◌, ◌&&◌, Bool, true, false, List, [], ◌∷◌, map, length, Option, Some, None, ap, refl, subst, sym, ◌∙◌}
-use Rattle.std.specs.Prelude.{option_and_then, slice_get, unwrap_or}
+use Rattle.std.proofs.Common.{◌≡◌, ℕ, suc, ◌+◌, ◌&&◌, Bool, true, false, List, [], ◌∷◌, map, length, Some, None, ap, refl, subst, sym, ◌∙◌}
 use Rattle.std.proofs.lemmas.Bool.{false≢true}
 use Rattle.std.proofs.lemmas.Option.{none-some, same_Some}
 use Rattle.phase_ports.proofs.PortLaws.{ports_shown}
@@ -11,7 +10,7 @@ use Rattle.phase_ports.specs.declared.port_list.Port.{Port}
 use Rattle.vrt_model.specs.FlatBlif.{model_at}
 use Rattle.vrt_model.specs.Lists.{is_empty}
 use Rattle.whole_circuits.proofs.FlatLaws.{flat_parts}
-use Rattle.whole_circuits.specs.Pins.{AreDrivesOf, drive_at}
+use Rattle.whole_circuits.specs.Pins.{AreDrivesOf}
 use Rattle.whole_circuits.specs.WholeCells.{HasWholeCell}
 use Rattle.whole_circuits.specs.declared.whole_cell.WholeCell.{WholeCell}
 use Rattle.vrt_model.specs.Checked.{has_fact, is_cell_allowed, keeps_inputs_free, names_no_global, observes_outputs}
@@ -27,8 +26,6 @@ use Rattle.vrt_model.specs.declared.pairing.Pairing.{Pairing}
 use Rattle.vrt_model.specs.declared.pairing.PortRole.{PortRole}
 use Rattle.vrt_model.specs.declared.rules.Rules.{Rules}
 use Rattle.vrt_model.specs.declared.whole.CellFacts.{CellFacts}
-use Rattle.vrt_model.specs.declared.whole.Drive.{Drive}
-use Rattle.vrt_model.specs.declared.whole.Drive.TheVariants.{Soft}
 use Rattle.whole_cells.specs.Entries.{IsAllowed, IsEntry, IsOfOwn}
 use Rattle.whole_cells.specs.Links.{ArePhasesLinked}
 use Rattle.whole_cells.specs.Own.{IsOwn}
@@ -45,17 +42,6 @@ pub some_model : (paired : Paired) (m : ℕ) → Some m ≡ model_of_paired pair
 some_model (Model n) m e = ap Model (sym (same_Some m n e))
 some_model Skipped m e = absurd (none-some m (sym e))
 some_model Missing m e = absurd (none-some m (sym e))
-
--- ---- drives
-
--- the drives that an entry of the facts has are those that the facts tell, and none are where there is no entry
-pub drives_told : (facts : List CellFacts) (cell : ℕ) (f : CellFacts) (drives : List Drive) → Some f ≡ slice_get facts cell → drives ≡ f.drives → AreDrivesOf facts cell drives
-drives_told facts cell f drives e same j =
-    ap (λ (o : Option CellFacts). unwrap_or (option_and_then (λ (x : CellFacts). slice_get x.drives j) o) Soft) (sym e) ∙ ap (λ (ds : List Drive). drive_at ds j) (sym same)
-
-pub none_told : (facts : List CellFacts) (cell : ℕ) (drives : List Drive) → None ≡ slice_get facts cell → drives ≡ [] → AreDrivesOf facts cell drives
-none_told facts cell drives e same j =
-    ap (λ (o : Option CellFacts). unwrap_or (option_and_then (λ (x : CellFacts). slice_get x.drives j) o) Soft) (sym e) ∙ ap (λ (ds : List Drive). drive_at ds j) (sym same)
 
 -- ---- what they have in common
 

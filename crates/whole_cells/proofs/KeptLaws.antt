@@ -73,15 +73,6 @@ module _ (design : Design) (blif : Blif) (rules : Rules) (cell : ℕ) where
 -- ---- tables
 
 module _ (design : Design) (blif : Blif) (rules : Rules) (facts : List CellFacts) where
-  -- nothing is made
-  pub none_kept : (kept : KeptCells) (count : ℕ) → length kept.cells.items ≡ length design.cells → length kept.made.items ≡ length design.cells → ((n : ℕ) → mark_at kept.made.items n ≡ false)
-      → AreKept design blif rules facts kept
-  none_kept kept count each marks none = record {
-    each = each;
-    marks = marks;
-    are = λ cell entry at marked. absurd (false≢true (sym (none cell) ∙ marked));
-  }
-
   -- one entry more
   pub one_kept : (kept new : KeptCells) (cell : ℕ) (entry : Option WholeCell) → IsEntry (top_before design rules cell) blif facts cell entry → new.cells.items ≡ set kept.cells.items cell entry
       → new.made.items ≡ set kept.made.items cell true → AreKept design blif rules facts kept → AreKept design blif rules facts new
@@ -98,16 +89,6 @@ module _ (design : Design) (blif : Blif) (rules : Rules) (facts : List CellFacts
               (sym (get_or-set_other kept.made.items cell n true false there.0) ∙ subst (λ (xs : List Bool). mark_at xs n ≡ true) made marked)
         ];
   }
-
-  -- the marks so far stay
-  pub mark_more : (marks : List Bool) (cell n : ℕ) → cell < length marks → mark_at marks n ≡ true → mark_at (set marks cell true) n ≡ true
-  mark_more marks cell n lt marked = elim (cases_eq n cell) [
-    | inl same ↦ subst (λ (k : ℕ). mark_at (set marks cell true) k ≡ true) (sym same) (get_or-set_same marks cell true false lt)
-    | inr other ↦ get_or-set_other marks cell n true false other ∙ marked
-  ]
-
-  pub mark_here : (marks : List Bool) (cell : ℕ) → cell < length marks → mark_at (set marks cell true) cell ≡ true
-  mark_here marks cell lt = get_or-set_same marks cell true false lt
 
   -- one mark is taken away, and other facts are known of its cell
   pub one_forgotten : (kept new : KeptCells) (cell : ℕ) (now : CellFacts) → cell < length kept.made.items → new.cells ≡ kept.cells → new.made.items ≡ set kept.made.items cell false

@@ -18,9 +18,6 @@ at_either (z ∷ xs) x y zero e = inl e
 at_either (z ∷ xs) x y (suc j) e = elim (at_either xs x y j e) [ inl a ↦ inl a | inr b ↦ inr (ap suc b.0, b.1) ]
 
 module _ (design : Design) (rules : Rules) (cell : ℕ) (own : Own) where
-  pub none_linked : ArePhasesLinked design rules cell own 0 []
-  none_linked = record { each = refl; are = λ phase links e. absurd (none-some links e) }
-
   pub one_linked : (n : ℕ) (all : List (List PortLink)) (links : List PortLink) → ArePhasesLinked design rules cell own n all
       → ArePortLinks design rules cell own.circuit own.pairing own.model n links → ArePhasesLinked design rules cell own (n + 1) (all ++ links ∷ [])
   one_linked n all links are next = record {

@@ -1,12 +1,11 @@
 -- Outputs of whole instances counted at their nets, place by place.
-use Rattle.std.proofs.Common.{◌≡◌, ℕ, ◌+◌, ◌<◌, ◌==◌, ◌++◌, Bool, true, false, cond, List, [], ◌∷◌, length, length-append, map, replicate, arith, ap, refl, subst, sym, ◌∙◌}
+use Rattle.std.proofs.Common.{◌≡◌, ℕ, ◌+◌, ◌<◌, ◌==◌, ◌++◌, Bool, true, false, cond, List, [], ◌∷◌, length, length-append, map, arith, ap, refl, subst, sym, ◌∙◌}
 use Rattle.std.specs.Prelude.{filter, flat_map}
-use Rattle.std.specs.List.{enumerate_from, slice_index}
+use Rattle.std.specs.List.{enumerate_from}
 use Rattle.std.proofs.lemmas.Grind.{flat_map-append}
 use Rattle.std.proofs.lemmas.List.{append-nil}
 use Rattle.std.proofs.lemmas.List.Elements.{filter-append}
 use Rattle.net_places.specs.declared.whole.Unrolled.{Unrolled}
-use Rattle.whole_circuits.proofs.LevelLaws.{nothing_counted}
 use Rattle.whole_circuits.proofs.ZipLaws.{next_before}
 use Rattle.whole_circuits.specs.Ends.{AreOutputCounts, CountsOf, GrowsBy, outputs_at, outputs_before}
 use Rattle.whole_circuits.specs.Insides.{IsCutAt}
@@ -64,7 +63,3 @@ module _ (cut : Cut) (unrolled : Unrolled) (whole : List Bool) (is : IsCutAt cut
       (sym (ap (flat_map (outputs_of_place cut.top blif facts)) (next_before cut unrolled whole is n p here true e)
       ∙ flat_map-append (outputs_of_place cut.top blif facts) (wholes_before cut n) (p ∷ [])
       ∙ ap (λ (os : List OutputAt). outputs_before cut blif facts n ++ os) (append-nil (outputs_of_place cut.top blif facts p)))) (grown are)
-
--- counts of nothing
-pub none_yet : (cut : Cut) (blif : Blif) (facts : List CellFacts) (size : ℕ) (counts : List ℕ) → counts ≡ replicate size 0 → AreOutputCounts (outputs_before cut blif facts 0) counts
-none_yet cut blif facts size counts e n lt = ap (λ (l : List ℕ). slice_index l n) e ∙ nothing_counted size n

@@ -65,10 +65,6 @@ module _ (cut : Cut) (marks : Marks) (are : AreMarks cut marks) where
       subst (λ (j : ℕ). At (moved_by 0 inside) i (count_below (is_instance_shown cut) j)) number
       (numbers_are (is_instance_shown cut) inside 0 0 refl (shown_is first inside same) i (omega (arith, long, count, lt)))
 
-  pub moved_none : marks.inside.items ≡ [] → (moved : List ℕ) → AreMoved cut moved
-  moved_none none moved i lt =
-      absurd (let long = ap (λ (ms : List Bool). length ms) none in let count = are.count in omega (arith, long, count, lt))
-
 -- ---- holds
 
 module _ (cut : Cut) (moved : List ℕ) (are : AreMoved cut moved) (c : Circuit) (instances : c.instances ≡ flat_instances cut.top) where

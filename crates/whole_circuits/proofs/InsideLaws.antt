@@ -179,7 +179,3 @@ module _ (cut : Cut) (unrolled : Unrolled) (whole : List Bool) (is : IsCutAt cut
       let sum = length-append old (is_within whole old p ∷ []) in
       let long = marked.count in
       record { count = omega (arith, count, sum, long); are = subst (AreInsideMarks cut) (sym grown) (inside_more i p old here long marked.are) }
-
--- no mark yet
-pub inside_none : (cut : Cut) → AreInsideMarks cut []
-inside_none cut n at lt there = absurd (omega (arith, lt))

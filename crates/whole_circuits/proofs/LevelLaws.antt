@@ -1,5 +1,5 @@
 -- Counts of channels by levels, and the drives that bear them.
-use Rattle.std.proofs.Common.{◌≡◌, ℕ, zero, suc, ◌+◌, ◌*◌, ◌<◌, ◌==◌, ◌||◌, Bool, true, false, List, [], ◌∷◌, length, replicate, arith, ap, refl, subst, sym, ◌∙◌, inl, inr}
+use Rattle.std.proofs.Common.{◌≡◌, ℕ, zero, suc, ◌+◌, ◌*◌, ◌<◌, ◌==◌, ◌||◌, Bool, true, false, List, [], ◌∷◌, length, arith, ap, refl, subst, sym, ◌∙◌, inl, inr}
 use Rattle.std.specs.List.{list_all, slice_index}
 use Rattle.std.proofs.lemmas.Bool.{and_from, and_parts, eq-eqb, eqb-true, false≢true, or_cases, or_left, or_right, cases_lt}
 use Rattle.std.proofs.lemmas.Bool.Decides.{nat_tests}
@@ -35,13 +35,6 @@ none_borne (x ∷ xs) = refl
 pub some_there : {X : Type 0} (xs : List X) (x : X) → Among xs x → (length xs == 0) ≡ false
 some_there [] x m = absurd (at_none m.0 x m.1)
 some_there (y ∷ xs) x m = let more : (suc (length xs) == 0) ≡ false = grind (arith, nat_tests) in more
-
--- ---- counts of nothing
-
-pub nothing_counted : (size e : ℕ) → slice_index (replicate size 0) e ≡ 0
-nothing_counted zero e = refl
-nothing_counted (suc size) zero = refl
-nothing_counted (suc size) (suc e) = nothing_counted size e
 
 -- ---- drives
 

@@ -14,6 +14,5 @@ pub mod OwnerLaws
 pub mod PinLaws
 pub mod ShownLaws
 pub mod StepLaws
-pub mod TakenLaws
 pub mod WholeLaws
 pub mod ZipLaws

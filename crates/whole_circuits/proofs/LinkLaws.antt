@@ -54,9 +54,6 @@ record IsOver (name : List ℕ) (ports : List Port) (nets : List Net) (outputs :
   named_is : link.named ≡ l.named
 
 module _ (name : List ℕ) (ports : List Port) (nets : List Net) (outputs : List WholePin) (l : PortLink) where
-  abbrev over_with : Port → Net → ℕ → Over
-  over_with to net s = record { from = net; signal = s; named = l.named }
-
   abbrev linked : Over → ℕ × WholePin → Link
   linked over q = record { phase = name; from = over.from; output = q.0; named = over.named }
 

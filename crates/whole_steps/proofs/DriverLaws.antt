@@ -1,15 +1,14 @@
 -- A table of the outputs of whole instances by net: one output more.
 use Rattle.std.proofs.Common.{◌≡◌, ◌≢◌, ℕ, ◌+◌, ◌<◌, ◌≤◌, Bool, true, false, List, [], ◌∷◌, ◌++◌, Option, None, Some, length, map, take, arith, ap, refl, subst, sym, ◌∙◌, inl, inr}
-use Rattle.std.specs.Prelude.{flat_map, replicate, sum_by}
+use Rattle.std.specs.Prelude.{flat_map, sum_by}
 use Rattle.std.proofs.lemmas.Bool.{cases_eq, cases_lt, false≢true}
 use Rattle.std.proofs.lemmas.Grind.{flat_map-append}
-use Rattle.std.proofs.lemmas.List.{length-append, length-map, length-replicate, length-take-le, map-append, take-take, take_all}
+use Rattle.std.proofs.lemmas.List.{length-append, length-map, length-take-le, map-append, take-take, take_all}
 use Rattle.std.proofs.lemmas.List.Concat.{length-flat_map}
 use Rattle.std.proofs.lemmas.List.Sums.{sum_by-take-le}
 use Rattle.std.proofs.lemmas.Option.{slice_get_within}
-use Rattle.vrt_model.proofs.Lists.{at_front, at_last, at_split, one_at, take_one}
-use Rattle.vrt_model.proofs.Members.{at_none}
-use Rattle.vrt_model.specs.Lists.{At, Among, MarksGrow, mark_at}
+use Rattle.vrt_model.proofs.Lists.{at_front, at_last, at_split, take_one}
+use Rattle.vrt_model.specs.Lists.{At, Among, mark_at}
 use Rattle.vrt_model.specs.Path.{Joins}
 use Rattle.vrt_model.specs.State.{OutputPin, output_pins}
 use Rattle.vrt_model.specs.declared.circuit.Circuit.{Circuit}
@@ -17,33 +16,10 @@ use Rattle.vrt_model.specs.declared.circuit.Device.{Device}
 use Rattle.vrt_model.specs.declared.whole.Drive.TheVariants.{Soft}
 use Rattle.vrt_model.specs.declared.whole.Whole.{Whole}
 use Rattle.vrt_model.specs.declared.whole.WholePin.{WholePin}
-use Rattle.whole_steps.proofs.OutputLaws.{none_at}
 use Rattle.whole_steps.specs.Tables.{AreMet, AreNoted, IsLast, IsOutput, driver_at, outputs_before, outputs_of}
 use Rattle.whole_steps.specs.declared.table.OutputPlace.{OutputPlace}
 
 -- ---- nets that channels meet
-
-pub met_none : (c : Circuit) → AreMet c 0 (replicate (length c.nets) false)
-met_none c = record {
-  size = length-replicate {A = Bool} (length c.nets) false;
-  left = λ at d lt e. absurd (omega (arith, lt));
-  right = λ at d lt e. absurd (omega (arith, lt));
-}
-
--- both ends of one device more are marked
-pub met_more : (c : Circuit) (number : ℕ) (d : Device) (old mid new : List Bool) → At c.devices number d → AreMet c number old
-    → length mid ≡ length old → mark_at mid d.left.0 ≡ true → MarksGrow old mid → length new ≡ length mid → mark_at new d.right.0 ≡ true → MarksGrow mid new → AreMet c (number + 1) new
-met_more c number d old mid new here before len left grows len' right grows' = record {
-  size = len' ∙ len ∙ before.size;
-  left = λ at x lt e. elim (cases_eq at number) [
-    | inl same ↦ subst (λ (y : Device). mark_at new y.left.0 ≡ true) (one_at c.devices number d x here (subst (λ (i : ℕ). At c.devices i x) same e)) (grows' d.left.0 left)
-    | inr ne ↦ grows' x.left.0 (grows x.left.0 (before.left at x (omega (arith, lt, ne)) e))
-  ];
-  right = λ at x lt e. elim (cases_eq at number) [
-    | inl same ↦ subst (λ (y : Device). mark_at new y.right.0 ≡ true) (one_at c.devices number d x here (subst (λ (i : ℕ). At c.devices i x) same e)) right
-    | inr ne ↦ grows' x.right.0 (grows x.right.0 (before.right at x (omega (arith, lt, ne)) e))
-  ];
-}
 
 -- no channel meets a net that is not marked
 pub met_apart : (c : Circuit) (met : List Bool) → AreMet c (length c.devices) met → (n : ℕ) → mark_at met n ≡ false → (d : Device) (m : ℕ) → Among c.devices d → ¬ Joins d m n
@@ -53,16 +29,6 @@ met_apart c met are n off d m among (inr ends) =
     false≢true (sym off ∙ ap (mark_at met) (sym ends.0) ∙ are.left among.0 d (slice_get_within c.devices among.0 d among.1) among.1)
 
 -- ---- outputs
-
--- nothing is noted
-pub noted_none : (c : Circuit) → AreNoted c [] (replicate (length c.nets) None)
-noted_none c = record {
-  size = (let len = length-replicate {A = Option OutputPlace} (length c.nets) None in let none : length {A = OutputPin} [] ≡ 0 = refl in omega (arith, len, none));
-  are = record {
-    last = λ n lt. subst (IsLast c [] n 0) (sym (none_at (length c.nets) n)) (λ at out e less. absurd (at_none at out e));
-    earlier = λ at out e. absurd (at_none at out e);
-  };
-}
 
 -- what was the last before a number is so still with one more behind
 module _ (c : Circuit) (pins : List OutputPin) (more : OutputPin) where

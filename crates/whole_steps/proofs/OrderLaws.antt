@@ -1,5 +1,5 @@
 -- The orders of the models of whole instances, one more; and with the outputs by net all that is made of the instances.
-use Rattle.std.proofs.Common.{◌≡◌, ℕ, ◌+◌, List, [], ◌∷◌, ◌++◌, length, arith, refl, subst, sym, ◌∙◌, inl, inr}
+use Rattle.std.proofs.Common.{◌≡◌, ℕ, ◌+◌, List, [], ◌∷◌, ◌++◌, length, arith, subst, sym, ◌∙◌, inl, inr}
 use Rattle.std.proofs.lemmas.Bool.{cases_eq}
 use Rattle.std.proofs.lemmas.List.{length-append}
 use Rattle.std.proofs.lemmas.Option.{slice_get_within}
@@ -14,9 +14,6 @@ use Rattle.whole_steps.specs.Logic.{IsLogicWhole, nothing_known}
 use Rattle.whole_steps.specs.Tables.{AreDrivers, AreOrders, IsWholeTable}
 use Rattle.whole_steps.specs.declared.table.OutputPlace.{OutputPlace}
 use Rattle.std.specs.Prelude.{Option}
-
-pub orders_none : (wholes : List Whole) → AreOrders wholes 0 []
-orders_none wholes = record { size = refl; each = λ k w lt. absurd (omega (arith, lt)) }
 
 pub orders_more : (wholes : List Whole) (number : ℕ) (orders : List ModelPlan) (w : Whole) (order : ModelPlan) → At wholes number w → IsPlan w.model (nothing_known w.model) order
     → AreOrders wholes number orders → AreOrders wholes (number + 1) (orders ++ order ∷ [])

@@ -1,5 +1,5 @@
-use Rattle.model_laws.proofs.NoWhole.{flat_is_checked, flat_with_none}
-use Rattle.model_laws.proofs.circuits.flat_circuits.Goals as goal
+use Rattle.checked_chain.proofs.NoWhole.{flat_is_checked, flat_with_none}
+use Rattle.checked_chain.proofs.flat.flat_circuits.Goals as goal
 
 pub returns-clause-with : goal.returns-clause-with
 returns-clause-with c = flat_with_none

@@ -3,7 +3,7 @@ use Rattle.std.proofs.Common.{◌≡◌, ℕ, zero, suc, ◌+◌, Bool, true, fa
 use Rattle.std.specs.Prelude.{drop, flat_map, option_map, slice_get, unwrap_or}
 use Rattle.std.specs.List.{list_any, enumerate_from, AllZip}
 use Rattle.std.proofs.lemmas.Bool.{false≢true}
-use Rattle.model_laws.specs.NoWhole.{none, whole_nowhere}
+use Rattle.checked_chain.specs.NoWhole.{none, whole_nowhere}
 use Rattle.vrt_model.proofs.Lists.{filter_all, filter_none}
 use Rattle.vrt_model.specs.Checked.{IsChecked, IsCircuitWith}
 use Rattle.vrt_model.specs.CheckedParts.{checked_devices, checked_holds, checked_instances, moved_end}
@@ -90,6 +90,11 @@ instances_same t =
 
 no_whole_place : (t : Top) → whole_places (whole_nowhere t) ≡ []
 no_whole_place t = filter_none (λ (p : NumberedPlace). is_whole none p.number) (numbered_places t) (λ p. not_whole p.number)
+
+-- a flat circuit has no whole instance
+pub flat_has_no_whole : (t : Top) → (flat_circuit_of t).wholes ≡ []
+unfolding flat_circuit_of
+flat_has_no_whole t = refl
 
 -- the flat circuit is the circuit with no instance left whole
 pub flat_with_none : (t : Top) (blif : Blif) (facts : List CellFacts) → IsCircuitWith (whole_nowhere t) blif facts (flat_circuit_of t)
