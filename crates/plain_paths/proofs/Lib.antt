@@ -1,3 +1,4 @@
+pub mod LocalLaws
 pub mod Passing
 pub mod Rounds
 pub mod Spreads

@@ -1,4 +1,5 @@
 pub mod Channels
+pub mod Local
 pub mod Marks
 pub mod Responses
 pub mod Tables

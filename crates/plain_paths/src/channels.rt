@@ -40,7 +40,7 @@ fn is_on(device: &Device, bare: bool, reading: &[bool]) -> bool
 
 impl Channel {
     /// The channel of a device.
-    fn through(device: &Device) -> Self
+    pub(crate) fn through(device: &Device) -> Self
         ensures { result ≡ channel_of device.now }
     {
         Channel {
@@ -52,7 +52,7 @@ impl Channel {
 }
 
 /// Adds a channel at the end.
-fn append(channels: &mut Vec<Channel>, channel: Channel) -> Result<(), NoMemory>
+pub(crate) fn append(channels: &mut Vec<Channel>, channel: Channel) -> Result<(), NoMemory>
     ensures { OnOk result (channels.new.items ≡ channels.old.items ++ channel ∷ []) }
 {
     match channels.push(channel) {

@@ -4,11 +4,13 @@
 #![tactic(auto)]
 
 mod channels;
+mod local;
 mod marks;
 mod ranges;
 mod signals;
 mod strengths;
 
 pub use channels::bit;
+pub use local::{raise, restore, root_signals};
 pub use ranges::is_flat;
 pub use signals::{Response, Signals, signals_at};

@@ -142,7 +142,7 @@ fn mark_holds(circuit: &Circuit, held: &[bool], strengths: &[u8], value: bool, m
 }
 
 /// Spreads the marks in rounds until none changes, in at most as many rounds as there are nets.
-fn spread_all(channels: &[Channel], strengths: &[u8], value: bool, marks: &mut [bool])
+pub(crate) fn spread_all(channels: &[Channel], strengths: &[u8], value: bool, marks: &mut [bool])
     requires fits { All (IsInRange (length marks.old)) channels.now }
     requires len { length strengths.now ≡ length marks.old }
     ensures { (w : Network) → HasBound w (length marks.old) → HasChannels w channels.now → ((n : ℕ) → IsStrength w n (slice_index strengths.now n)) → HasRootMarks w (RootFits (slice_index strengths.now) value) (HopFits (slice_index strengths.now)) (mark_at marks.old) → Marked w strengths.now value marks.old → (n : ℕ) → (mark_at marks.new n ≡ true) ↔ Reaches w n value }

@@ -67,7 +67,7 @@ fn pass_round(channels: &[Channel], table: &mut [u8]) -> bool
 }
 
 /// Raises the levels in rounds until none changes, in at most as many rounds as there are nets.
-fn pass_all(channels: &[Channel], table: &mut [u8])
+pub(crate) fn pass_all(channels: &[Channel], table: &mut [u8])
     requires fits { All (IsInRange (length table.old)) channels.now }
     ensures { (w : Network) → HasBound w (length table.old) → HasChannels w channels.now → HasRoots w table.old → IsAttained w table.old → (n : ℕ) → IsStrength w n (slice_index table.new n) }
 {

@@ -8,5 +8,6 @@ pub mod PartNets
 pub mod SettingLaws
 pub mod SettleLaws
 pub mod StartLaws
+pub mod SweepLaws
 pub mod ViewLaws
 pub mod Spaces

@@ -31,18 +31,18 @@ within_known bits n v e = found (slice_get bits n) refl e
 shown_there : (list : List Seen) (n : ℕ) (seen : Seen) → At list n seen → bits_shown list n ≡ bit_shown seen
 shown_there list n seen e = ap (λ (o : Option Seen). unwrap_or (option_map bit_shown o) None) e
 
+pub bit_shown_is : (seen : Seen) (v : Bool) → bit_shown seen ≡ Some v → seen ≡ Bit v
+bit_shown_is (Bit u) v t = ap Bit (same_Some u v t)
+bit_shown_is Fight v t = absurd (none-some v t)
+bit_shown_is Float v t = absurd (none-some v t)
+bit_shown_is Blocked v t = absurd (none-some v t)
+
 pub bit_there : (list : List Seen) (n : ℕ) (v : Bool) → bits_shown list n ≡ Some v → At list n (Bit v)
 bit_there list n v e = found (slice_get list n) refl e
   where
-    is : (seen : Seen) → bit_shown seen ≡ Some v → seen ≡ Bit v
-    is (Bit u) t = ap Bit (same_Some u v t)
-    is Fight t = absurd (none-some v t)
-    is Float t = absurd (none-some v t)
-    is Blocked t = absurd (none-some v t)
-
     found : (o : Option Seen) → slice_get list n ≡ o → unwrap_or (option_map bit_shown o) None ≡ Some v → At list n (Bit v)
     found None here t = absurd (none-some v t)
-    found (Some seen) here t = here ∙ ap Some (is seen t)
+    found (Some seen) here t = here ∙ ap Some (bit_shown_is seen v t)
 
 -- ---- one response
 

@@ -2,6 +2,8 @@
 use Rattle.std.specs.Prelude.{◌≡◌, ℕ, ◌<◌, ◌≤◌, ◌⊎◌, Bool, true, false, cond, List, Option, Some, is_some, length, option_map, slice_get, unwrap_or}
 use Rattle.known_nets.specs.KnownTables.{known_at}
 use Rattle.known_nets.specs.Learned.{unknown}
+use Rattle.plain_paths.specs.Local.{ShowsRoots}
+use Rattle.plain_paths.specs.declared.signals.Signals.{Signals}
 use Rattle.vrt_model.specs.Lists.{At, bit_at}
 use Rattle.vrt_model.specs.State.{Setting}
 use Rattle.vrt_model.specs.Variables.{is_input}
@@ -39,6 +41,11 @@ pub record Stands (c : Circuit) (phase : Phase) (setting : Setting) (bits : ℕ 
   pub given : HasGivenBits c phase setting.inputs bits
   pub known : HasKnownNets c phase bits
   pub shown : (n : ℕ) (v : Bool) → bits n ≡ Some v → HasSeen c phase setting bits true n (Bit v)
+
+-- the bits stand, and tables have the signals of the roots alone
+pub record IsSwept (c : Circuit) (phase : Phase) (setting : Setting) (given : ℕ → Bool) (bits : ℕ → Option Bool) (tables : Signals) : Type 0 where
+  pub stands : Stands c phase setting bits
+  pub roots : ShowsRoots c given setting.held tables
 
 -- this is what the nets show at these bits, and the bits are those that they show
 pub record IsSettled (c : Circuit) (phase : Phase) (setting : Setting) (bits : ℕ → Option Bool) (list : List Seen) : Type 0 where

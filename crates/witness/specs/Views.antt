@@ -2,10 +2,12 @@
 use Rattle.std.specs.Prelude.{ℕ, ◌&&◌, ◌==◌, Bool, false, cond, List, Option, map, unwrap_or}
 use Rattle.std.specs.List.{list_any}
 use Rattle.channel_parts.specs.declared.part.Part.{Part}
+use Rattle.plain_paths.specs.declared.signals.Signals.{Signals}
 use Rattle.vrt_model.specs.Lists.{bit_at}
 use Rattle.vrt_model.specs.declared.circuit.Circuit.{Circuit}
 use Rattle.vrt_model.specs.declared.ids.Net.{Net}
 use Rattle.witness.specs.Looks.{is_stopped, seen_by}
+use Rattle.witness.specs.Replays.{bit_shown}
 use Rattle.witness.specs.declared.seen.Seen.{Seen}
 use Rattle.witness.specs.declared.seen.Seen.TheVariants.{Blocked}
 
@@ -22,3 +24,7 @@ filled_list bits = map (λ (bit : Option Bool). unwrap_or bit false) bits
 
 abbrev pub view_by : Bool → List Bool → List Bool → ℕ → Seen
 view_by stopped zeros ones n = cond stopped Blocked (seen_by (bit_at zeros n) (bit_at ones n))
+
+-- the bit that a net shows by these signals, if it shows one
+abbrev pub shown_by : Signals → ℕ → Option Bool
+shown_by signals n = bit_shown (seen_by (bit_at signals.zeros.items n) (bit_at signals.ones.items n))

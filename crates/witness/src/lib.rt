@@ -7,6 +7,7 @@ mod replaying;
 mod rounds;
 mod seen;
 mod starting;
+mod sweeping;
 mod values;
 mod verdict_lines;
 mod viewing;

@@ -14,6 +14,7 @@ ghost use Rattle.witness.specs.declared.seen.Seen.{Seen as SeenValue};
 use crate::rounds::settle;
 use crate::seen::Seen;
 use crate::starting::start_bits;
+use crate::sweeping::sweep;
 use crate::values::{ReplayFault, Values};
 use crate::viewing::view_all;
 use channel_parts::{PartFault, Parts, parts};
@@ -63,6 +64,7 @@ fn values(
     ensures { IfOk result (λ values. IsAcyclicArcs circuit.now phase.now × AreValues circuit.now phase.now (setting_of circuit.now held.now inputs.now) values.bare values.kept) }
 {
     let mut bits = start_bits(alloc, circuit, bare.known.as_slice(), inputs)?;
+    sweep(alloc, circuit, &mut bits, held, bare.list.as_slice())?;
     let seen = settle(alloc, circuit, &mut bits, held, bare.list.as_slice())?;
     let kept = view_kept(alloc, circuit, phase, bits.as_slice(), held)?;
     Ok(Values { bare: seen, kept })

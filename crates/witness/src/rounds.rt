@@ -22,7 +22,7 @@ use std::alloc::Global;
 use vrt_model::{Circuit, NoMemory, Seq};
 
 /// The bit that a net shows, if it shows one.
-fn shown_bit(seen: Seen) -> Option<bool>
+pub(crate) fn shown_bit(seen: Seen) -> Option<bool>
     ensures { result ≡ bit_shown seen }
 {
     match seen {
@@ -44,7 +44,7 @@ fn shown_at(seen: &[Seen], net: usize) -> Option<bool>
 }
 
 /// Notes the bit of a net that has none yet, if there is one, and says whether it did.
-fn note(bits: &mut Vec<Option<bool>>, net: usize, bit: Option<bool>) -> bool
+pub(crate) fn note(bits: &mut Vec<Option<bool>>, net: usize, bit: Option<bool>) -> bool
     requires { net < length bits.old.items }
     ensures size { length bits.new.items ≡ length bits.old.items }
     ensures grown { (n : ℕ) (v : Bool) → known_at bits.old.items n ≡ Some v → known_at bits.new.items n ≡ Some v }

@@ -65,7 +65,7 @@ fn mark_parts(circuit: &Circuit, bits: &[Option<bool>], marks: &mut Vec<bool>, p
 }
 
 /// The bits, and 0 where there is none.
-fn filled(alloc: Global, bits: &[Option<bool>]) -> Result<Vec<bool>, NoMemory>
+pub(crate) fn filled(alloc: Global, bits: &[Option<bool>]) -> Result<Vec<bool>, NoMemory>
     ensures { IfOk result (λ reading. reading.items ≡ filled_list bits.now) }
 {
     let mut reading = Vec::new(alloc);

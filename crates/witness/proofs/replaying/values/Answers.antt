@@ -15,11 +15,18 @@ use Rattle.witness.specs.Settling.{IsSettled, Stands, start_of}
 use Rattle.witness.specs.declared.seen.Seen.{Seen}
 use Rattle.witness.proofs.replaying.values.Goals as goal
 
+pub sweep-requires-clause-nets : goal.sweep-requires-clause-nets
+sweep-requires-clause-nets c =
+    let circuit = c.args.circuit.now in
+    let parts = c.requires.parts in
+    subst (λ (ps : List Part). All (λ (part : Part). All (λ (net : Net). net.0 < length circuit.nets) part.nets) ps) (sym c.as_slice-2.ensures)
+    (part_nets circuit c.args.phase.now true parts.0 c.args.bare.now parts.1)
+
 pub settle-requires-clause-nets : goal.settle-requires-clause-nets
 settle-requires-clause-nets c =
     let circuit = c.args.circuit.now in
     let parts = c.requires.parts in
-    subst (λ (ps : List Part). All (λ (part : Part). All (λ (net : Net). net.0 < length circuit.nets) part.nets) ps) (sym c.as_slice-2.ensures)
+    subst (λ (ps : List Part). All (λ (part : Part). All (λ (net : Net). net.0 < length circuit.nets) part.nets) ps) (sym c.as_slice-3.ensures)
     (part_nets circuit c.args.phase.now true parts.0 c.args.bare.now parts.1)
 
 pub returns : goal.returns
@@ -38,14 +45,17 @@ returns c =
     let each : (n : ℕ) → n < length circuit.nets → slice_get start n ≡ Some (start_of circuit known inputs n) =
     subst (λ (xs : List (Option Bool)). (n : ℕ) → n < length circuit.nets → slice_get start n ≡ Some (start_of circuit xs inputs n)) c.as_slice.ensures c.in_ok-bits.ensures.each in
     let stands : Stands circuit phase setting (known_at start) = start_stands circuit phase flat held inputs known are.known start c.in_ok-bits.ensures.len each in
+    let swept : Stands circuit phase setting (known_at c.sweep.new.bits.items) =
+    c.in_ok-sweep.ensures.stands phase setting parts.0 refl
+    (subst (λ (ps : List Part). (part : Part) → Among ps part → IsPartOf circuit phase true parts.0 part) (sym c.as_slice-2.ensures) are.each) stands in
     let settled : IsSettled circuit phase setting (known_at bits) c.in_ok-seen.seen =
     c.in_ok-seen.ensures phase setting parts.0 refl
-    (subst (λ (ps : List Part). (part : Part) → Among ps part → IsPartOf circuit phase true parts.0 part) (sym c.as_slice-2.ensures) are.each)
-    (subst (λ (ps : List Part). (m : ℕ) → IsPlain circuit m → (part : Part) × Among ps part × Among (net_numbers part.nets) m) (sym c.as_slice-2.ensures) are.all)
-    stands in
-    let there : Stands circuit phase setting (known_at c.as_slice-3.result.now) =
-    subst (λ (xs : List (Option Bool)). Stands circuit phase setting (known_at xs)) (sym c.as_slice-3.ensures.value) settled.stands in
+    (subst (λ (ps : List Part). (part : Part) → Among ps part → IsPartOf circuit phase true parts.0 part) (sym c.as_slice-3.ensures) are.each)
+    (subst (λ (ps : List Part). (m : ℕ) → IsPlain circuit m → (part : Part) × Among ps part × Among (net_numbers part.nets) m) (sym c.as_slice-3.ensures) are.all)
+    swept in
+    let there : Stands circuit phase setting (known_at c.as_slice-4.result.now) =
+    subst (λ (xs : List (Option Bool)). Stands circuit phase setting (known_at xs)) (sym c.as_slice-4.ensures.value) settled.stands in
     let kept : (n : ℕ) (seen : Seen) → At c.in_ok-kept.kept n seen → HasSeen circuit phase setting (known_at bits) false n seen =
-    subst (λ (xs : List (Option Bool)). (n : ℕ) (seen : Seen) → At c.in_ok-kept.kept n seen → HasSeen circuit phase setting (known_at xs) false n seen) c.as_slice-3.ensures.value
+    subst (λ (xs : List (Option Bool)). (n : ℕ) (seen : Seen) → At c.in_ok-kept.kept n seen → HasSeen circuit phase setting (known_at xs) false n seen) c.as_slice-4.ensures.value
     (c.in_ok-kept.ensures.seen setting refl there.given there.known) in
     (parts.3, settled_values circuit phase setting (known_at bits) c.in_ok-seen.seen c.in_ok-kept.kept settled c.in_ok-kept.ensures.len kept)
