@@ -4,3 +4,4 @@ pub mod CheckLaws
 pub mod BuildLaws
 pub mod Examples
 pub mod Fits
+pub mod WordLaws

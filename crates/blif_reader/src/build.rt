@@ -27,32 +27,19 @@ fn before_end(cards: &[Card]) -> &[Card]
     cards
 }
 
-/// The cards of a model before its don't-care network.
-fn own_part(body: &[Card]) -> &[Card]
-    ensures { result.now ≡ own_cards body.now }
+/// The cards of a model before its don't-care network, and those of the network.
+fn cut_network(body: &[Card]) -> (&[Card], &[Card])
+    ensures own { result.0.now ≡ own_cards body.now }
+    ensures network { result.1.now ≡ network_cards body.now }
 {
     let mut at = 0;
     'cards: while at < body.len() {
         if is_exdc_card(&body[at]) {
-            return &body[..at];
+            return (&body[..at], &body[at + 1..]);
         }
         at += 1;
     }
-    body
-}
-
-/// The cards of its don't-care network.
-fn network_part(body: &[Card]) -> &[Card]
-    ensures { result.now ≡ network_cards body.now }
-{
-    let mut at = 0;
-    'cards: while at < body.len() {
-        if is_exdc_card(&body[at]) {
-            return &body[at + 1..];
-        }
-        at += 1;
-    }
-    &[]
+    (body, &[])
 }
 
 /// The covers, the latches and the sub-models on cards.
@@ -72,12 +59,12 @@ fn parts_of(
 fn model(alloc: Global, first: &Card, body: &[Card]) -> Result<BlifModel, NoMemory>
     ensures { IfOk result (λ m. m ≡ model_of (first.now, body.now)) }
 {
-    let own = own_part(body);
+    let (own, network) = cut_network(body);
     let name = Text::from_bytes(alloc, name_of(first))?;
     let (inputs, input_lines) = signals_of(alloc, b".inputs".as_slice(), own)?;
     let (clocks, clock_lines) = signals_of(alloc, b".clock".as_slice(), own)?;
     let (outputs, output_lines) = signals_of(alloc, b".outputs".as_slice(), own)?;
-    let exdc = covers_of(alloc, network_part(body))?;
+    let exdc = covers_of(alloc, network)?;
     let (covers, latches, subs) = parts_of(alloc, own)?;
     Ok(BlifModel {
         line: first.line,

@@ -8,9 +8,10 @@ ghost use Rattle.text_lines.specs.Words.{but_last};
 ghost use Rattle.blif_reader.specs.Cards.{card_of, ends_with_backslash, has_words, is_hash, uncommented};
 ghost use Rattle.blif_reader.specs.Opened.{cards_behind, cards_left, numbered, with_line};
 
+use crate::card_words::CardWords;
 use std::alloc::Global;
-use text_lines::{first_line, is_text_line, line_words};
-use vrt_model::{NoMemory, Seq, Text};
+use text_lines::{first_line, first_word, is_text_line};
+use vrt_model::{NoMemory, Text};
 
 /// A card: the number of its first line, from 1, whether all its bytes are text, and its words.
 pub struct Card {
@@ -19,7 +20,7 @@ pub struct Card {
     /// Whether each byte outside comments is a tab or from the space to the tilde.
     pub is_all_text: bool,
     /// Its words as written, without comments, at least one.
-    pub words: Seq<Text>,
+    pub words: CardWords,
 }
 
 /// By hand, so that letting go of one is a call.
@@ -86,10 +87,10 @@ fn before_backslash(bytes: &[u8]) -> Option<&[u8]>
 fn worded(alloc: Global, line: u32, bytes: &[u8]) -> Result<Option<Card>, NoMemory>
     ensures { IfOk result (λ card. option_to_list card ≡ filter has_words (card_of (line, bytes.now) ∷ [])) }
 {
-    let words = line_words(alloc, bytes)?;
-    if words.is_empty() {
+    let Some((first, rest)) = first_word(bytes) else {
         return Ok(None);
-    }
+    };
+    let words = CardWords::of_parts(alloc, first, rest)?;
     Ok(Some(Card {
         line,
         is_all_text: is_text_line(bytes),

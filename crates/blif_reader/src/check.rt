@@ -10,7 +10,7 @@ ghost use Rattle.blif_reader.specs.Models.{begins_model, ends_model, is_exdc};
 
 use crate::BlifFault;
 use crate::cards::{Card, Reading, next_card};
-use crate::covers::{inputs_of, is_on_row};
+use crate::covers::{input_count, is_on_row};
 use crate::judge::judge;
 use crate::known::{Known, OpenCover};
 use crate::words::{has_dot, is_cover_card, is_exdc_card, name_of, opens, shuts};
@@ -75,7 +75,7 @@ fn cover_after(cover: Option<OpenCover>, card: &Card) -> Option<OpenCover>
 {
     if is_cover_card(card) {
         return Some(OpenCover {
-            width: inputs_of(card).len(),
+            width: input_count(card),
             first: None,
         });
     }

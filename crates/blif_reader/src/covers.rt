@@ -1,26 +1,35 @@
 //! The covers of a model.
 
-ghost use Rattle.std.specs.Prelude.{◌≡◌, ◌++◌, ◌∷◌, [], true, map, unwrap_or, codes, bytes_eq, IfOk, OnOk};
+ghost use Rattle.std.specs.Prelude.{◌≡◌, ◌++◌, ◌∷◌, [], true, length, map, unwrap_or, codes, bytes_eq, IfOk, OnOk};
+ghost use Rattle.text_lines.specs.Bytes.{words_of};
 ghost use Rattle.text_lines.specs.Groups.{groups, up_to};
+ghost use Rattle.text_lines.specs.Words.{but_last};
 ghost use Rattle.blif_reader.specs.Models.{cover_inputs, cover_output, cover_of, covers_in, first_output, is_cover, is_dotted, is_on, row_inputs};
 
 use crate::cards::Card;
-use crate::words::{end, front, has_dot, is_cover_card, words_from};
+use crate::words::{has_dot, is_cover_card, last_of};
 use std::alloc::Global;
+use text_lines::{count_words, first_word};
 use vrt_model::{CoverLine, NoMemory, Seq, Text};
 
-/// The inputs of a cover.
-pub fn inputs_of(card: &Card) -> &[Text]
-    ensures { result.now ≡ cover_inputs card.now }
+/// How many inputs a cover has.
+#[tactic(auto, using(crate::proofs::WordLaws::all_but_last))]
+pub fn input_count(card: &Card) -> usize
+    ensures { result ≡ length (cover_inputs card.now) }
 {
-    front(words_from(card, 1))
+    let (_, rest) = card.words.parts();
+    match first_word(rest) {
+        Some((_, behind)) => count_words(behind),
+        None => 0,
+    }
 }
 
 /// Whether the output of a row is 1.
 pub fn is_on_row(row: &Card) -> bool
     ensures { result ≡ is_on row.now }
 {
-    end(row.words.as_slice()) == b"1".as_slice()
+    let (first, rest) = row.words.parts();
+    last_of(first, rest) == b"1".as_slice()
 }
 
 /// The rows of a cover: the cards before the next one that begins with `.`.
@@ -51,10 +60,20 @@ fn is_on_set(rows: &[Card]) -> bool
 fn bits_of(row: &Card) -> &[u8]
     ensures { result.now ≡ row_inputs row.now }
 {
-    match front(row.words.as_slice()).first() {
-        Some(bits) => bits.as_bytes(),
+    let (first, rest) = row.words.parts();
+    match first_word(rest) {
+        Some(_) => first,
         None => &[],
     }
+}
+
+/// Adds a text of these bytes.
+fn add_text(alloc: Global, texts: &mut Seq<Text>, bytes: &[u8]) -> Result<(), NoMemory>
+    ensures { OnOk result (texts.new ≡ texts.old ++ bytes.now ∷ []) }
+{
+    let text = Text::from_bytes(alloc, bytes)?;
+    texts.append(text)?;
+    Ok(())
 }
 
 /// The inputs of rows.
@@ -63,36 +82,39 @@ fn bits_of_rows(alloc: Global, rows: &[Card]) -> Result<Seq<Text>, NoMemory>
 {
     let mut found = Seq::new(alloc);
     for row in rows {
-        let bits = Text::from_bytes(alloc, bits_of(row))?;
-        if found.push(bits).is_err() {
-            return Err(NoMemory);
-        }
+        add_text(alloc, &mut found, bits_of(row))?;
     }
     Ok(found)
 }
 
-/// Copies of words.
-fn copies(alloc: Global, words: &[Text]) -> Result<Seq<Text>, NoMemory>
-    ensures { IfOk result (λ texts. texts ≡ words.now) }
+/// The words of a line but the last.
+fn all_but_last(alloc: Global, line: &[u8]) -> Result<Seq<Text>, NoMemory>
+    ensures { IfOk result (λ texts. texts ≡ but_last (words_of line.now)) }
 {
     let mut texts = Seq::new(alloc);
-    for word in words {
-        let text = Text::from_bytes(alloc, word.as_bytes())?;
-        if texts.push(text).is_err() {
-            return Err(NoMemory);
-        }
+    let Some((first, behind)) = first_word(line) else {
+        return Ok(texts);
+    };
+    let mut last = first;
+    let mut left = behind;
+    'words: while let Some((found, behind)) = first_word(left) {
+        add_text(alloc, &mut texts, last)?;
+        last = found;
+        left = behind;
     }
     Ok(texts)
 }
 
 /// The cover of its first card and its rows.
-fn cover(alloc: Global, first: &Card, rows: &[Card]) -> Result<CoverLine, NoMemory>
-    ensures { IfOk result (λ c. c ≡ cover_of (first.now, rows.now)) }
+#[tactic(auto, using(crate::proofs::WordLaws::last_behind_none))]
+fn cover(alloc: Global, card: &Card, rows: &[Card]) -> Result<CoverLine, NoMemory>
+    ensures { IfOk result (λ c. c ≡ cover_of (card.now, rows.now)) }
 {
+    let (_, rest) = card.words.parts();
     Ok(CoverLine {
-        line: first.line,
-        inputs: copies(alloc, inputs_of(first))?,
-        output: Text::from_bytes(alloc, end(words_from(first, 1)))?,
+        line: card.line,
+        inputs: all_but_last(alloc, rest)?,
+        output: Text::from_bytes(alloc, last_of(&[], rest))?,
         on: is_on_set(rows),
         rows: bits_of_rows(alloc, rows)?,
     })

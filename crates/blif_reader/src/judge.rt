@@ -6,19 +6,21 @@ ghost use Rattle.vrt_model.specs.Lists.{has_name};
 ghost use Rattle.blif_reader.specs.Cards.{first_word};
 ghost use Rattle.blif_reader.specs.Models.{model_name};
 ghost use Rattle.blif_reader.specs.Refused.{differs_from, differs_in, fault_by, fits, goes_there, has_bad_tie, is_as_latch, is_bad_latch, is_bad_row, is_bad_tie, is_input_byte, is_known, is_known_there, is_mixed, is_model_twice, is_other, is_output_word, is_outside, is_row, is_short, passes_limit};
+ghost use Rattle.text_lines.specs.Bytes.{words_of};
 ghost use Rattle.text_lines.specs.Faults.{Judges};
 
 use crate::BlifFault;
 use crate::cards::Card;
-use crate::covers::{inputs_of, is_on_row};
+use crate::covers::{input_count, is_on_row};
 use crate::known::{Known, OpenCover};
 use crate::latches::has_latch_form;
 use crate::subs::is_bad_tie_word;
 use crate::words::{
     has_dot, is_cover_card, is_first, is_latch_card, is_sub_card, name_of, opens, shuts, word,
-    words_from,
+    words_behind,
 };
 use std::alloc::Global;
+use text_lines::first_word;
 use vrt_model::Text;
 
 /// Whether the profile has a card of this first word.
@@ -69,9 +71,10 @@ fn is_other_card(known: &Known, card: &Card) -> bool
 fn is_asynchronous(card: &Card) -> bool
     ensures { result ≡ is_as_latch card.now }
 {
+    let (_, rest) = card.words.parts();
     is_latch_card(card)
         && (card.words.len() == 5 || card.words.len() == 6)
-        && word(card, 3) == b"as".as_slice()
+        && word(rest, 2) == b"as".as_slice()
 }
 
 fn is_outside_model(known: &Known, card: &Card) -> bool
@@ -103,19 +106,19 @@ fn are_inputs(bits: &[u8]) -> bool
     all
 }
 
-/// Whether words are a row of a cover with so many inputs.
-fn is_row_of(width: usize, words: &[Text]) -> bool
-    ensures { result ≡ is_row width words.now }
+/// Whether words are a row of a cover with so many inputs: one, and those of a line behind it.
+fn is_row_of(width: usize, first: &[u8], rest: &[u8]) -> bool
+    ensures { result ≡ is_row width (first.now ∷ words_of rest.now) }
 {
-    match words {
-        [out] => width == 0 && is_bit(out.as_bytes()),
-        [bits, out] => {
-            width != 0
-                && bits.len() == width
-                && are_inputs(bits.as_bytes())
-                && is_bit(out.as_bytes())
+    match first_word(rest) {
+        None => width == 0 && is_bit(first),
+        Some((out, more)) => {
+            first_word(more).is_none()
+                && width != 0
+                && first.len() == width
+                && are_inputs(first)
+                && is_bit(out)
         }
-        _ => false,
     }
 }
 
@@ -123,7 +126,10 @@ fn fits_cover(cover: &Option<OpenCover>, card: &Card) -> bool
     ensures { result ≡ fits cover.now card.now }
 {
     match cover {
-        Some(cover) => is_row_of(cover.width, card.words.as_slice()),
+        Some(cover) => {
+            let (first, rest) = card.words.parts();
+            is_row_of(cover.width, first, rest)
+        }
         None => false,
     }
 }
@@ -162,16 +168,19 @@ fn is_row_mixed(known: &Known, card: &Card) -> bool
 fn is_latch_refused(card: &Card) -> bool
     ensures { result ≡ is_bad_latch card.now }
 {
-    is_latch_card(card) && card.words.len() >= 3 && !has_latch_form(words_from(card, 3))
+    let (_, rest) = card.words.parts();
+    is_latch_card(card) && card.words.len() >= 3 && !has_latch_form(words_behind(rest, 2))
 }
 
-fn has_bad_tie_among(words: &[Text]) -> bool
-    ensures { result ≡ list_any is_bad_tie words.now }
+fn has_bad_tie_among(line: &[u8]) -> bool
+    ensures { result ≡ list_any is_bad_tie (words_of line.now) }
 {
-    for word in words {
-        if is_bad_tie_word(word.as_bytes()) {
+    let mut left = line;
+    'words: while let Some((word, behind)) = first_word(left) {
+        if is_bad_tie_word(word) {
             return true;
         }
+        left = behind;
     }
     false
 }
@@ -179,7 +188,8 @@ fn has_bad_tie_among(words: &[Text]) -> bool
 fn has_tie_refused(card: &Card) -> bool
     ensures { result ≡ has_bad_tie card.now }
 {
-    is_sub_card(card) && has_bad_tie_among(words_from(card, 2))
+    let (_, rest) = card.words.parts();
+    is_sub_card(card) && has_bad_tie_among(words_behind(rest, 1))
 }
 
 fn is_second_model(known: &Known, card: &Card) -> bool
@@ -198,7 +208,7 @@ fn is_too_short(card: &Card) -> bool
 fn is_past_limit(known: &Known, card: &Card) -> bool
     ensures { result ≡ passes_limit known.now card.now }
 {
-    opens(card) && known.models.len() >= 4096 || is_cover_card(card) && inputs_of(card).len() > 1000
+    opens(card) && known.models.len() >= 4096 || is_cover_card(card) && input_count(card) > 1000
 }
 
 /// The fault of a card that is not supported.
@@ -234,7 +244,7 @@ pub fn judge(alloc: Global, known: &Known, card: &Card) -> Result<(), BlifFault>
         return Err(BlifFault::NotText { line });
     }
     if is_other_card(known, card) {
-        return Err(unsupported(alloc, line, word(card, 0)));
+        return Err(unsupported(alloc, line, card.words.first()));
     }
     if is_asynchronous(card) {
         return Err(unsupported(alloc, line, b"as".as_slice()));

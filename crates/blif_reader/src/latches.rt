@@ -1,11 +1,13 @@
 //! The latches of a model.
 
-ghost use Rattle.std.specs.Prelude.{◌≡◌, ◌++◌, ◌∷◌, [], None, flat_map, is_some, IfOk, OnOk};
+ghost use Rattle.std.specs.Prelude.{◌≡◌, ◌++◌, ◌∷◌, [], None, flat_map, is_some, option_map, IfOk, OnOk};
+ghost use Rattle.text_lines.specs.Bytes.{words_of};
 ghost use Rattle.blif_reader.specs.Models.{control_of, end_of, init_of, is_latch, latch_end, latch_kind, latch_of, latches_in, with_kind};
 
 use crate::cards::Card;
-use crate::words::{is_latch_card, word, words_from};
+use crate::words::{is_latch_card, word, words_behind};
 use std::alloc::Global;
+use text_lines::first_word;
 use vrt_model::{LatchKind, LatchLine, NoMemory, Seq, Text};
 
 /// What is behind the input and the output of a latch: its type, its control and its initial value.
@@ -54,18 +56,28 @@ fn read_init(word: &[u8]) -> Option<u8>
     }
 }
 
-/// Whether the words behind the output are `[TYPE CONTROL] [INIT]`.
-pub fn has_latch_form(words: &[Text]) -> bool
-    ensures { result ≡ is_some (latch_end words.now) }
+/// Whether a word and those of a line behind it are `INIT`, `TYPE CONTROL` or `TYPE CONTROL INIT`.
+fn has_typed_form(kind: &[u8], line: &[u8]) -> bool
+    ensures { result ≡ is_some (latch_end (kind.now ∷ words_of line.now)) }
 {
-    match words {
-        [] => true,
-        [init] => read_init(init.as_bytes()).is_some(),
-        [kind, _] => kind_of(kind.as_bytes()).is_some(),
-        [kind, _, init] => {
-            kind_of(kind.as_bytes()).is_some() && read_init(init.as_bytes()).is_some()
+    let Some((_, behind)) = first_word(line) else {
+        return read_init(kind).is_some();
+    };
+    match first_word(behind) {
+        None => kind_of(kind).is_some(),
+        Some((init, more)) => {
+            first_word(more).is_none() && kind_of(kind).is_some() && read_init(init).is_some()
         }
-        _ => false,
+    }
+}
+
+/// Whether the words behind the output are `[TYPE CONTROL] [INIT]`.
+pub fn has_latch_form(line: &[u8]) -> bool
+    ensures { result ≡ is_some (latch_end (words_of line.now)) }
+{
+    match first_word(line) {
+        None => true,
+        Some((kind, behind)) => has_typed_form(kind, behind),
     }
 }
 
@@ -114,24 +126,41 @@ fn untyped(init: u8) -> LatchEnd
     }
 }
 
-/// The end of a latch, none where the words have another form.
-fn read_end(alloc: Global, words: &[Text]) -> Result<Option<LatchEnd>, NoMemory>
-    ensures { IfOk result (λ found. found ≡ latch_end words.now) }
+/// The end of a latch of its initial value alone.
+fn of_init(init: Option<u8>) -> Option<LatchEnd>
+    ensures { result ≡ option_map (λ n. record { kind = None; control = None; init = n }) init }
 {
-    match words {
-        [] => Ok(Some(untyped(3))),
-        [init] => match read_init(init.as_bytes()) {
-            Some(init) => Ok(Some(untyped(init))),
-            None => Ok(None),
-        },
-        [kind, control] => read_typed(alloc, kind.as_bytes(), control.as_bytes(), Some(3)),
-        [kind, control, init] => read_typed(
-            alloc,
-            kind.as_bytes(),
-            control.as_bytes(),
-            read_init(init.as_bytes()),
-        ),
-        _ => Ok(None),
+    match init {
+        Some(init) => Some(untyped(init)),
+        None => None,
+    }
+}
+
+/// The end of a latch of a word and those of a line behind it, none where they have another form.
+fn read_behind(alloc: Global, kind: &[u8], line: &[u8]) -> Result<Option<LatchEnd>, NoMemory>
+    ensures { IfOk result (λ found. found ≡ latch_end (kind.now ∷ words_of line.now)) }
+{
+    let Some((control, behind)) = first_word(line) else {
+        return Ok(of_init(read_init(kind)));
+    };
+    match first_word(behind) {
+        None => read_typed(alloc, kind, control, Some(3)),
+        Some((init, more)) => {
+            if first_word(more).is_some() {
+                return Ok(None);
+            }
+            read_typed(alloc, kind, control, read_init(init))
+        }
+    }
+}
+
+/// The end of a latch, none where the words have another form.
+fn read_end(alloc: Global, line: &[u8]) -> Result<Option<LatchEnd>, NoMemory>
+    ensures { IfOk result (λ found. found ≡ latch_end (words_of line.now)) }
+{
+    match first_word(line) {
+        None => Ok(Some(untyped(3))),
+        Some((kind, behind)) => read_behind(alloc, kind, behind),
     }
 }
 
@@ -139,8 +168,9 @@ fn read_end(alloc: Global, words: &[Text]) -> Result<Option<LatchEnd>, NoMemory>
 fn latch(alloc: Global, card: &Card, end: LatchEnd) -> Result<LatchLine, NoMemory>
     ensures { IfOk result (λ found. found ≡ latch_of card.now end) }
 {
-    let input = Text::from_bytes(alloc, word(card, 1))?;
-    let output = Text::from_bytes(alloc, word(card, 2))?;
+    let (_, rest) = card.words.parts();
+    let input = Text::from_bytes(alloc, word(rest, 0))?;
+    let output = Text::from_bytes(alloc, word(rest, 1))?;
     Ok(LatchLine {
         line: card.line,
         input,
@@ -158,7 +188,8 @@ fn add_latch(alloc: Global, found: &mut Seq<LatchLine>, card: &Card) -> Result<(
     if !is_latch_card(card) {
         return Ok(());
     }
-    let Some(end) = read_end(alloc, words_from(card, 3))? else {
+    let (_, rest) = card.words.parts();
+    let Some(end) = read_end(alloc, words_behind(rest, 2))? else {
         return Ok(());
     };
     let one = latch(alloc, card, end)?;

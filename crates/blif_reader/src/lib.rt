@@ -2,6 +2,7 @@
 #![tactic(auto)]
 
 mod build;
+mod card_words;
 mod cards;
 mod check;
 mod covers;
@@ -15,6 +16,7 @@ mod signals;
 mod subs;
 mod words;
 
+pub use card_words::CardWords;
 pub use cards::Card;
 pub use faults::BlifFault;
 pub use laws::computed_fault;

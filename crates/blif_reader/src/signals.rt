@@ -1,13 +1,15 @@
 //! Lists of signals: the inputs, the clocks and the outputs of a model.
 
 ghost use Rattle.std.specs.Prelude.{◌≡◌, ◌++◌, ◌∷◌, [], map, IfOk, OnOk};
+ghost use Rattle.text_lines.specs.Bytes.{words_of};
 ghost use Rattle.blif_reader.specs.Built.{with_signal, with_signals};
 ghost use Rattle.blif_reader.specs.Models.{listed, listed_on, signals_on, names, lines};
 
 use crate::cards::Card;
-use crate::words::{is_first, words_from};
+use crate::words::is_first;
 use names::Names;
 use std::alloc::Global;
+use text_lines::first_word;
 use vrt_model::{NoMemory, Seq, Text};
 
 /// A signal, and the line of the card that lists it first.
@@ -57,14 +59,16 @@ fn add_signals(
     seen: &mut Names,
     found: &mut Seq<Listed>,
     line: u32,
-    listing: &[Text],
+    listing: &[u8],
 ) -> Result<(), NoMemory>
     requires { seen.old ≡ names found.old }
     ensures seen { OnOk result (seen.new ≡ names found.new) }
-    ensures found { OnOk result (found.new ≡ with_signals found.old (map (listed_on line) listing.now)) }
+    ensures found { OnOk result (found.new ≡ with_signals found.old (map (listed_on line) (words_of listing.now))) }
 {
-    for name in listing {
-        add_signal(alloc, seen, found, line, name.as_bytes())?;
+    let mut left = listing;
+    'names: while let Some((name, behind)) = first_word(left) {
+        add_signal(alloc, seen, found, line, name)?;
+        left = behind;
     }
     Ok(())
 }
@@ -84,7 +88,8 @@ fn add_card(
     if !is_first(card, word) {
         return Ok(());
     }
-    add_signals(alloc, seen, found, card.line, words_from(card, 1))
+    let (_, listing) = card.words.parts();
+    add_signals(alloc, seen, found, card.line, listing)
 }
 
 /// The signals that the cards of this first word list, each once.

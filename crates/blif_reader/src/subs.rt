@@ -1,13 +1,15 @@
 //! The sub-models of a model.
 
 ghost use Rattle.std.specs.Prelude.{◌≡◌, ◌++◌, ◌∷◌, [], drop, filter, map, IfOk, OnOk};
+ghost use Rattle.text_lines.specs.Bytes.{words_of};
 ghost use Rattle.text_lines.specs.Groups.{up_to};
 ghost use Rattle.blif_reader.specs.Models.{behind_equals, is_equals, is_sub, sub_of, tie_of};
 ghost use Rattle.blif_reader.specs.Refused.{is_bad_tie};
 
 use crate::cards::Card;
-use crate::words::{is_sub_card, word, words_from};
+use crate::words::{is_sub_card, word, words_behind};
 use std::alloc::Global;
+use text_lines::first_word;
 use vrt_model::{NoMemory, Seq, SubLine, Text, Tie};
 
 /// What stands before and behind the first `=`.
@@ -44,16 +46,16 @@ fn tie(alloc: Global, word: &[u8]) -> Result<Tie, NoMemory>
     })
 }
 
-/// The ties of words.
-fn ties_of(alloc: Global, words: &[Text]) -> Result<Seq<Tie>, NoMemory>
-    ensures { IfOk result (λ ties. ties ≡ map tie_of words.now) }
+/// The ties of the words of a line.
+fn ties_of(alloc: Global, line: &[u8]) -> Result<Seq<Tie>, NoMemory>
+    ensures { IfOk result (λ ties. ties ≡ map tie_of (words_of line.now)) }
 {
     let mut ties = Seq::new(alloc);
-    for word in words {
-        let one = tie(alloc, word.as_bytes())?;
-        if ties.push(one).is_err() {
-            return Err(NoMemory);
-        }
+    let mut left = line;
+    'words: while let Some((word, behind)) = first_word(left) {
+        let one = tie(alloc, word)?;
+        ties.append(one)?;
+        left = behind;
     }
     Ok(ties)
 }
@@ -62,10 +64,11 @@ fn ties_of(alloc: Global, words: &[Text]) -> Result<Seq<Tie>, NoMemory>
 fn sub(alloc: Global, card: &Card) -> Result<SubLine, NoMemory>
     ensures { IfOk result (λ s. s ≡ sub_of card.now) }
 {
+    let (_, rest) = card.words.parts();
     Ok(SubLine {
         line: card.line,
-        model: Text::from_bytes(alloc, word(card, 1))?,
-        ties: ties_of(alloc, words_from(card, 2))?,
+        model: Text::from_bytes(alloc, word(rest, 0))?,
+        ties: ties_of(alloc, words_behind(rest, 1))?,
     })
 }
 

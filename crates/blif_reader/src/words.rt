@@ -1,29 +1,19 @@
 //! The words of a card.
 
-ghost use Rattle.std.specs.Prelude.{◌≡◌, drop, codes};
-ghost use Rattle.text_lines.specs.Bytes.{starts};
-ghost use Rattle.text_lines.specs.Words.{behind, but_last, last_word, word_at};
-ghost use Rattle.blif_reader.specs.Cards.{first_word, has_first};
+ghost use Rattle.std.specs.Prelude.{◌≡◌, ◌∷◌, drop, codes};
+ghost use Rattle.text_lines.specs.Bytes.{starts, words_of};
+ghost use Rattle.text_lines.specs.Words.{last_word, word_at};
+ghost use Rattle.blif_reader.specs.Cards.{has_first};
 ghost use Rattle.blif_reader.specs.Models.{begins_model, ends_model, is_cover, is_dotted, is_exdc, is_latch, is_sub, model_name};
 
 use crate::cards::Card;
-use vrt_model::Text;
-
-/// The word at a place, empty where there is none.
-pub fn word(card: &Card, at: usize) -> &[u8]
-    ensures { result.now ≡ word_at card.now.words at }
-{
-    match card.words.get(at) {
-        Some(found) => found.as_bytes(),
-        None => &[],
-    }
-}
+use text_lines::first_word;
 
 /// Whether the first word is this.
 pub fn is_first(card: &Card, text: &[u8]) -> bool
     ensures { result ≡ has_first text.now card.now }
 {
-    word(card, 0) == text
+    card.words.first() == text
 }
 
 /// Whether the card begins a model.
@@ -72,7 +62,7 @@ pub fn is_exdc_card(card: &Card) -> bool
 pub fn has_dot(card: &Card) -> bool
     ensures { result ≡ is_dotted card.now }
 {
-    match word(card, 0).first() {
+    match card.words.first().first() {
         Some(first) => b'.' == *first,
         None => false,
     }
@@ -82,33 +72,45 @@ pub fn has_dot(card: &Card) -> bool
 pub fn name_of(card: &Card) -> &[u8]
     ensures { result.now ≡ model_name card.now }
 {
-    word(card, 1)
+    let (_, rest) = card.words.parts();
+    word(rest, 0)
 }
 
-/// The words behind the first ones.
-pub fn words_from(card: &Card, at: usize) -> &[Text]
-    ensures { result.now ≡ drop at card.now.words }
+/// A line behind its first words, so many of them.
+pub fn words_behind(line: &[u8], count: usize) -> &[u8]
+    ensures { words_of result.now ≡ drop count (words_of line.now) }
 {
-    let words = card.words.as_slice();
-    if at <= words.len() { &words[at..] } else { &[] }
-}
-
-/// The words but the last.
-pub fn front(words: &[Text]) -> &[Text]
-    ensures { result.now ≡ but_last words.now }
-{
-    match words.split_last() {
-        Some((_, before)) => before,
-        None => words,
+    let mut left = count;
+    let mut rest = line;
+    'words: while left > 0 {
+        let Some((_, behind)) = first_word(rest) else {
+            return rest;
+        };
+        left -= 1;
+        rest = behind;
     }
+    rest
 }
 
-/// The last word, empty where there is none.
-pub fn end(words: &[Text]) -> &[u8]
-    ensures { result.now ≡ last_word words.now }
+/// The word of a line at a place, empty where there is none.
+pub fn word(line: &[u8], at: usize) -> &[u8]
+    ensures { result.now ≡ word_at (words_of line.now) at }
 {
-    match words.split_last() {
-        Some((last, _)) => last.as_bytes(),
+    match first_word(words_behind(line, at)) {
+        Some((found, _)) => found,
         None => &[],
     }
+}
+
+/// The last of a word and those of a line behind it.
+pub fn last_of<'a>(first: &'a [u8], rest: &'a [u8]) -> &'a [u8]
+    ensures { result.now ≡ last_word (first.now ∷ words_of rest.now) }
+{
+    let mut last = first;
+    let mut left = rest;
+    'words: while let Some((found, behind)) = first_word(left) {
+        last = found;
+        left = behind;
+    }
+    last
 }
