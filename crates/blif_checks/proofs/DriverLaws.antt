@@ -220,12 +220,6 @@ driving_is blif tables s t name f number are sn fn n =
       by_tests false true = refl
       by_tests false false = refl
 
--- the list of a name at a number, where there is none
-pub none_at : (lists : List (List (List ℕ))) (n : ℕ) (name : List ℕ) → slice_get lists n ≡ None → has_name (get_or lists n []) name ≡ false
-none_at [] n name e = refl
-none_at (x ∷ lists) zero name e = cc
-none_at (x ∷ lists) (suc n) name e = none_at lists n name e
-
 -- ---- all of a model
 
 pub drivers_are : (blif : Blif) (m : BlifModel) (g : OnLine → Mention) (covers : List CoverLine) (latches : List LatchLine) (subs : List SubLine) (none a b c d : List Mention) → none ≡ [] → covers ≡ m.covers → latches ≡ m.latches → subs ≡ m.subs

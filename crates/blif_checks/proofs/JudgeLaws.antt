@@ -256,11 +256,6 @@ told_of (Some own) (Some network) f (Err g) (inr e) (inr h) =
     ∙ ap Some
     (ap (λ t. cond t (of_driver network) (of_driver own)) (sym (lines_told own network)) ∙ ap₂ (λ (a b : ModelFault). cond (is_line_before (line_of b) (line_of a)) b a) same other))
 
--- a model without a fault of its own has that of its network
-pub told_network : (own network : Option DriverFault) → option_map of_driver own ≡ None → earlier_fault own network ≡ network
-told_network None network e = refl
-told_network (Some own) network e = cc
-
 -- the first model with a fault
 pub model_first : (blif : Blif) (models : List BlifModel) (i : ℕ) (m : BlifModel) (f : ModelFault) → models ≡ blif.models → i < length models → slice_get models i ≡ Some m
     → slice_get (filter_map (driver_fault_in blif) (drop i blif.models)) 0 ≡ driver_fault blif → option_map of_driver (driver_fault_in blif m) ≡ Some f → option_map of_driver (driver_fault blif) ≡ Some f

@@ -3,7 +3,7 @@ use Rattle.std.proofs.Common.{◌≡◌, ◌<◌, ◌≤◌, ◌+◌, ◌++◌, 
 use Rattle.std.specs.Prelude.{◌⊎◌, ◌==◌, bytes_eq, filter, filter_map, find, is_none, nat_lt, slice_get, Result, Ok, Err}
 use Rattle.std.specs.List.{cons_option, list_any}
 use Rattle.std.specs.Option.{option_or}
-use Rattle.std.proofs.lemmas.Bool.{and_parts, cases_eq, cases_lt, eqb-true, lt-ltb, or_parts, or_right}
+use Rattle.std.proofs.lemmas.Bool.{and_parts, cases_eq, cases_lt, eqb-true, lt-ltb, or_parts, or_right, or_cases}
 use Rattle.std.proofs.lemmas.List.Folds.{list_any-append}
 use Rattle.std.proofs.lemmas.Slice.Eq.{bytes_eq-Decides}
 use Rattle.vrt_model.specs.Lists.{At, has_name}
@@ -274,17 +274,13 @@ all_false : (test : ℕ → Bool) (xs : List ℕ) → ((x : ℕ) → test x ≡ 
 all_false test [] none = refl
 all_false test (x ∷ xs) none = ap₂ (λ a b. a || b) (none x) (all_false test xs none)
 
-or_true : (a b : Bool) → (a || b) ≡ true → (a ≡ true) ⊎ (b ≡ true)
-or_true true b e = inl refl
-or_true false b e = inr e
-
 filtered_any : (p : OnLine → Bool) (line : ℕ) (list : List OnLine) → list_any (λ (o : OnLine). o.line == line) (filter p list) ≡ true → list_any (λ (o : OnLine). o.line == line) list ≡ true
 filtered_any p line [] e = cc
 filtered_any p line (o ∷ list) e = by_test (p o) e (filtered_any p line list) where
   by_test : (b : Bool) → list_any (λ (o : OnLine). o.line == line) (cond b (o ∷ filter p list) (filter p list)) ≡ true
       → (list_any (λ (o : OnLine). o.line == line) (filter p list) ≡ true → list_any (λ (o : OnLine). o.line == line) list ≡ true)
       → ((o.line == line) || list_any (λ (o : OnLine). o.line == line) list) ≡ true
-  by_test true h more = elim (or_true (o.line == line) (list_any (λ (o : OnLine). o.line == line) (filter p list)) h) [
+  by_test true h more = elim (or_cases (o.line == line) (list_any (λ (o : OnLine). o.line == line) (filter p list)) h) [
     | inl here ↦ ap (λ b. b || list_any (λ (o : OnLine). o.line == line) list) here
     | inr there ↦ or_right (o.line == line) (list_any (λ (o : OnLine). o.line == line) list) (more there)
   ]
@@ -292,7 +288,7 @@ filtered_any p line (o ∷ list) e = by_test (p o) e (filtered_any p line list) 
 
 any_at : (line : ℕ) (list : List OnLine) → list_any (λ (o : OnLine). o.line == line) list ≡ true → (i : ℕ) × At (map (λ (o : OnLine). o.line) list) i line
 any_at line [] e = cc
-any_at line (o ∷ list) e = elim (or_true (o.line == line) (list_any (λ (o : OnLine). o.line == line) list) e) [
+any_at line (o ∷ list) e = elim (or_cases (o.line == line) (list_any (λ (o : OnLine). o.line == line) list) e) [
   | inl here ↦ (0, ap Some (eqb-true o.line line here))
   | inr there ↦ let rest = any_at line list there in (suc rest.0, rest.1)
 ]
@@ -366,7 +362,7 @@ line_there blif m notes names line i o are at bad here =
     let x = mentioned names (mentions_in m) i o at in
     let l : x.0.line ≡ line = ap (λ (p : Mention). p.line) x.2 ∙ here in
     let known = are.known i x.0 x.1 in
-    any_at line (drivers_in blif m ++ uses_in blif m) (elim (or_true (is_second notes o) (is_first_use notes o) bad) [
+    any_at line (drivers_in blif m ++ uses_in blif m) (elim (or_cases (is_second notes o) (is_first_use notes o) bad) [
       | inl second ↦
           let twice : is_driven_twice_on blif m x.0.line x.0.name ≡ true = sym (twice_is blif m notes names x.0 known are.count are.notes_are) ∙ ap (is_second notes) x.2 ∙ second in
           let any = (and_parts (nat_lt 1 (count_lines (λ k. not (nat_lt x.0.line k)) (drivers_of_name blif m x.0.name)) && nat_lt (count_lines (λ k. nat_lt k x.0.line) (drivers_of_name blif m x.0.name)) 2)

@@ -4,6 +4,7 @@ use Rattle.std.specs.Prelude.{◌==◌, filter, is_none, nat_lt, slice_get}
 use Rattle.std.specs.List.{list_any}
 use Rattle.std.proofs.lemmas.Bool.{cases_eq, cases_lt, eqb-true, lt-ltb, ltb-false, ltb-true, or_parts}
 use Rattle.std.proofs.Math.Bool.{or-false}
+use Rattle.std.proofs.lemmas.Option.{slice_get_within}
 use Rattle.blif_checks.specs.Notes.{AreNotes, IsNote, count_to, is_by, is_line, lines_for, no_note}
 use Rattle.blif_checks.specs.declared.mentions.Mention.{Mention}
 use Rattle.blif_checks.specs.declared.notes.Note.{Note}
@@ -112,16 +113,6 @@ lines_here k list o e = lines_last k list o ∙ ap (λ b. lines_for k list ++ co
 lines_other : (k : ℕ) (list : List Mention) (o : Mention) → o.signal ≢ k → lines_for k (list ++ o ∷ []) ≡ lines_for k list
 lines_other k list o e = lines_last k list o ∙ ap (λ b. lines_for k list ++ cond b (o.line ∷ []) []) (eq_no o.signal k e) ∙ no_more (lines_for k list)
 
-there_at : {X : Type 0} (xs : List X) (i : ℕ) → i < length xs → (x : X) × (slice_get xs i ≡ Some x)
-there_at [] i lt = absurd (omega arith)
-there_at (x ∷ xs) zero lt = (x, refl)
-there_at (x ∷ xs) (suc i) lt = there_at xs i (omega arith)
-
-within_notes : {X : Type 0} (xs : List X) (i : ℕ) (x : X) → slice_get xs i ≡ Some x → i < length xs
-within_notes [] i x e = cc
-within_notes (y ∷ xs) zero x e = omega arith
-within_notes (y ∷ xs) (suc i) x e = let rest = within_notes xs i x e in omega arith
-
 same_note : (a b : Note) → Some a ≡ Some b → a ≡ b
 same_note a b e = cc
 
@@ -143,7 +134,7 @@ pub notes_driver : (notes : List Note) (o : Mention) (old new : Note) (drivers u
 notes_driver notes o old new drivers uses here step are = record {
   each = λ k note e. elim (cases_eq k o.signal) [
     | inl same ↦
-        let is : new ≡ note = same_note new note (sym (at_set notes o.signal new (within_notes notes o.signal old here)) ∙ ap (slice_get (set notes o.signal new)) (sym same) ∙ e) in
+        let is : new ≡ note = same_note new note (sym (at_set notes o.signal new (slice_get_within notes o.signal old here)) ∙ ap (slice_get (set notes o.signal new)) (sym same) ∙ e) in
         let before : IsNote old (lines_for k drivers) (lines_for k uses) = are.each k old (ap (slice_get notes) same ∙ here) in
         subst (λ (n : Note). IsNote n (lines_for k (drivers ++ o ∷ [])) (lines_for k uses)) is
         (subst (λ (ls : List ℕ). IsNote new ls (lines_for k uses)) (sym (lines_here k drivers o (sym same))) (step (lines_for k drivers) (lines_for k uses) before))
@@ -157,7 +148,7 @@ notes_driver notes o old new drivers uses here step are = record {
 pub notes_driver_none : (notes : List Note) (o : Mention) (drivers uses : List Mention) → length notes ≤ o.signal → AreNotes notes drivers uses → AreNotes notes (drivers ++ o ∷ []) uses
 notes_driver_none notes o drivers uses past are = record {
   each = λ k note e.
-      let lt = within_notes notes k note e in
+      let lt = slice_get_within notes k note e in
       subst (λ (ls : List ℕ). IsNote note ls (lines_for k uses)) (sym (lines_other k drivers o (omega (arith, lt, past)))) (are.each k note e);
 }
 
@@ -167,7 +158,7 @@ pub notes_use : (notes : List Note) (o : Mention) (old new : Note) (drivers uses
 notes_use notes o old new drivers uses here step are = record {
   each = λ k note e. elim (cases_eq k o.signal) [
     | inl same ↦
-        let is : new ≡ note = same_note new note (sym (at_set notes o.signal new (within_notes notes o.signal old here)) ∙ ap (slice_get (set notes o.signal new)) (sym same) ∙ e) in
+        let is : new ≡ note = same_note new note (sym (at_set notes o.signal new (slice_get_within notes o.signal old here)) ∙ ap (slice_get (set notes o.signal new)) (sym same) ∙ e) in
         let before : IsNote old (lines_for k drivers) (lines_for k uses) = are.each k old (ap (slice_get notes) same ∙ here) in
         subst (λ (n : Note). IsNote n (lines_for k drivers) (lines_for k (uses ++ o ∷ []))) is
         (subst (IsNote new (lines_for k drivers)) (sym (lines_here k uses o (sym same))) (step (lines_for k drivers) (lines_for k uses) before))
@@ -180,7 +171,7 @@ notes_use notes o old new drivers uses here step are = record {
 pub notes_use_none : (notes : List Note) (o : Mention) (drivers uses : List Mention) → length notes ≤ o.signal → AreNotes notes drivers uses → AreNotes notes drivers (uses ++ o ∷ [])
 notes_use_none notes o drivers uses past are = record {
   each = λ k note e.
-      let lt = within_notes notes k note e in
+      let lt = slice_get_within notes k note e in
       subst (IsNote note (lines_for k drivers)) (sym (lines_other k uses o (omega (arith, lt, past)))) (are.each k note e);
 }
 

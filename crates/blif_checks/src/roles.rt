@@ -102,6 +102,17 @@ fn is_either(first: bool, second: bool) -> bool
     first || second
 }
 
+/// Whether a model, by its number, reads a formal: it is an input or a clock of it.
+fn reads(blif: &Blif, tables: &Tables, clocks: &[Names], number: usize, formal: &[u8]) -> bool
+    requires tables { AreTables blif.now tables.now }
+    requires clocks { AreClocks blif.now clocks.now }
+    ensures { result ≡ (has_name (model_at blif.now number).inputs formal.now || has_name (get_or clocks.now number []) formal.now) }
+{
+    let among_inputs = is_input(blif, tables, clocks, number, formal);
+    let among_clocks = has_at(clocks, number, formal);
+    is_either(among_inputs, among_clocks)
+}
+
 /// Whether a sub-model reads what is tied.
 fn is_reading(blif: &Blif, tables: &Tables, clocks: &[Names], sub: &SubLine, tie: &Tie) -> bool
     requires tables { AreTables blif.now tables.now }
@@ -109,10 +120,7 @@ fn is_reading(blif: &Blif, tables: &Tables, clocks: &[Names], sub: &SubLine, tie
     ensures { result ≡ is_reading blif.now sub.now tie.now }
 {
     let number = number_of(&tables.names, sub.model.as_bytes());
-    let formal = tie.formal.as_bytes();
-    let among_inputs = is_input(blif, tables, clocks, number, formal);
-    let among_clocks = has_at(clocks, number, formal);
-    is_either(among_inputs, among_clocks)
+    reads(blif, tables, clocks, number, tie.formal.as_bytes())
 }
 
 /// Whether a sub-model drives what is tied.
@@ -122,8 +130,9 @@ fn is_driving(blif: &Blif, tables: &Tables, clocks: &[Names], sub: &SubLine, tie
     ensures { result ≡ is_driving blif.now sub.now tie.now }
 {
     let number = number_of(&tables.names, sub.model.as_bytes());
-    let known = has_at(tables.interfaces.as_slice(), number, tie.formal.as_bytes());
-    let read = is_reading(blif, tables, clocks, sub, tie);
+    let formal = tie.formal.as_bytes();
+    let known = has_at(tables.interfaces.as_slice(), number, formal);
+    let read = reads(blif, tables, clocks, number, formal);
     is_first_alone(known, read)
 }
 

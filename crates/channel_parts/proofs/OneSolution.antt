@@ -16,7 +16,7 @@ use Rattle.vrt_model.proofs.Decidable.{reaches_test, reaches_test_ok}
 use Rattle.vrt_model.proofs.Filtered.{device_among}
 use Rattle.vrt_model.proofs.GatesGiven.{IsGiven, base_reading, given_once, plain_any}
 use Rattle.vrt_model.proofs.GivenNets.{clear_from_source, source_strength}
-use Rattle.vrt_model.proofs.Members.{all_among, at_none}
+use Rattle.vrt_model.proofs.Members.{all_among}
 use Rattle.vrt_model.proofs.Networks.{given_source, network_finite, network_levels}
 use Rattle.vrt_model.proofs.Ranked.{plain_not_given}
 use Rattle.vrt_model.proofs.Scales.{least_below}
@@ -37,7 +37,6 @@ use Rattle.vrt_model.specs.declared.circuit.FlatNet.{FlatNet}
 use Rattle.vrt_model.specs.declared.circuit.NetKind.{NetKind}
 use Rattle.vrt_model.specs.declared.circuit.NetKind.TheVariants.{Supply, Clock, Input, Plain}
 use Rattle.vrt_model.specs.declared.rules.Phase.{Phase}
-use Rattle.vrt_model.specs.declared.whole.Whole.{Whole}
 use Rattle.vrt_model.specs.declared.whole.WholePin.{WholePin}
 use Rattle.vrt_model.proofs.Bounded.{reaches_inside}
 use Rattle.vrt_model.proofs.Laws.{shows_from, turned}
@@ -402,7 +401,3 @@ one_solution_of_ranked c phase setting wired observed seen determined known tabl
     let drives = determined_drives c phase setting.inputs observed rank determined ranks in
     ranked_one c phase setting wired.ranges observed rank drives.0 drives.1 (nets_stand c phase observed setting wired seen)
     known table seen.gates seen.nets (λ m n arc. ranks.above m n (inl (inl arc, arc.3)))
-
--- a circuit without whole instances asks nothing of them
-pub flat_determined : (c : Circuit) (phase : Phase) (observed : ℕ → Bool) → c.wholes ≡ [] → AreDetermined c phase observed
-flat_determined c phase observed flat w m = absurd (at_none m.0 w (subst (λ (ws : List Whole). At ws m.0 w) flat m.1))

@@ -1,11 +1,11 @@
 -- The lines of an instance's cell hold exactly where its constraints are not broken.
-use Rattle.std.proofs.Common.{◌≡◌, ℕ, zero, suc, ◌<◌, ◌≤◌, ◌⊎◌, ◌&&◌, ◌||◌, Bool, true, false, cond, not, List, [], ◌∷◌, length, get_or, Option, Some, None, arith, ap, ap₂, refl, sym, subst, ◌∙◌, inl, inr}
+use Rattle.std.proofs.Common.{◌≡◌, ℕ, zero, suc, ◌<◌, ◌≤◌, ◌&&◌, ◌||◌, Bool, true, false, cond, not, List, [], ◌∷◌, length, get_or, Option, Some, None, arith, ap, ap₂, refl, sym, subst, ◌∙◌, inl, inr}
 use Rattle.std.specs.Prelude.{◌↔◌, bytes_eq, find, nat_lt, option_and_then, option_map, slice_get}
 use Rattle.std.specs.List.{list_all, position_or_len}
-use Rattle.std.proofs.lemmas.Bool.{and_parts, false≢true, ltb-false, true≢false}
+use Rattle.std.proofs.lemmas.Bool.{and_parts, false≢true, ltb-false, true≢false, and_cases}
 use Rattle.std.proofs.lemmas.List.Quantifiers.{position-Some}
 use Rattle.std.proofs.lemmas.List.Sums.{fails_before_first}
-use Rattle.std.proofs.lemmas.Option.{get_or_from_slice_get, none-some, same_Some, slice_get-get_or, slice_get_within}
+use Rattle.std.proofs.lemmas.Option.{get_or_from_slice_get, none-some, same_Some, slice_get-get_or, slice_get_within, cond_some}
 use Rattle.std.proofs.lemmas.Slice.Eq.{bytes_eq-Decides}
 use Rattle.node_pool.specs.declared.region.Span.{Span}
 use Rattle.bdd_core.specs.Diagram.{Valuation, meaning}
@@ -98,10 +98,6 @@ fails_all test (y ∷ ys) x (suc i, e) t = last (test y) (fails_all test ys x (i
     last true e = e
     last false e = refl
 
-chosen : {Y : Type 0} (b : Bool) (x y : Y) → cond b (Some x) None ≡ Some y → (b ≡ true) × (x ≡ y)
-chosen true x y e = (refl, same_Some x y e)
-chosen false x y e = absurd (none-some y e)
-
 cond_false : (b x : Bool) → cond b x true ≡ false → (b ≡ true) × (x ≡ false)
 cond_false true x e = (refl, e)
 cond_false false x e = absurd (true≢false e)
@@ -122,10 +118,6 @@ differs_not true true e = absurd (true≢false e)
 differs_not true false e = refl
 differs_not false true e = refl
 differs_not false false e = absurd (false≢true e)
-
-both_false : (a b : Bool) → (a && b) ≡ false → (a ≡ false) ⊎ (b ≡ false)
-both_false true b e = inr e
-both_false false b e = inl refl
 
 -- ---- an instance
 
@@ -179,7 +171,7 @@ module _ (design : Design) (rules : Rules) (i : FlatInstance) (phase : ℕ) (d :
   broken_assume h =
       let from = among_filter_map (λ (x : AssumeRule). cond (bytes_eq x.cell cell && is_for x.phase phase) (Some x.expression) None) rules.assumes h.0 h.1 in
       let r : AssumeRule = from.0 in
-      let asked = chosen (bytes_eq r.cell cell && is_for r.phase phase) r.expression h.0 from.2 in
+      let asked = cond_some (bytes_eq r.cell cell && is_for r.phase phase) r.expression h.0 from.2 in
       let ours = (and_parts (bytes_eq r.cell cell) (is_for r.phase phase) asked.0).0 in
       let value : value_by (port_bit design a i) r.expression ≡ Some false = ap (value_by (port_bit design a i)) asked.1 ∙ h.2 in
       let is = value_known (port_bit design a i) bit r.expression (λ name m. port_known name (named.assumes r from.1 ours name m)) in
@@ -265,7 +257,7 @@ module _ (design : Design) (rules : Rules) (i : FlatInstance) (phase : ℕ) (d :
   -- the lines do not all hold exactly where a constraint is broken
   pub breaks : (obliged_at d design rules i phase values v ≡ false) ↔ BreaksConstraint design rules phase a i
   breaks = (
-    λ e. elim (both_false (all_hold (assume_holds d handle cell phase) rules.assumes v) (all_hold (clock_holds d handle cell (phase_bits rules phase)) rules.clockports v) e) [
+    λ e. elim (and_cases (all_hold (assume_holds d handle cell phase) rules.assumes v) (all_hold (clock_holds d handle cell (phase_bits rules phase)) rules.clockports v) e) [
       | inl one ↦ inl (assume_broken one)
       | inr two ↦ inr (clock_broken two)
     ],

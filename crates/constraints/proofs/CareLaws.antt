@@ -1,7 +1,6 @@
 -- The holds that enter a phase, one after the other.
 use Rattle.std.proofs.Common.{◌≡◌, ℕ, suc, ◌+◌, ◌*◌, ◌-◌, ◌<◌, ◌≤◌, ◌&&◌, Bool, true, false, not, List, ◌∷◌, Option, Some, None, Result, Ok, Err, drop, get_or, length, arith, ap, ap₂, refl, sym, subst, ◌∙◌}
 use Rattle.std.proofs.Math.Seq.{drop-cons}
-use Rattle.std.proofs.lemmas.List.{drop_all}
 use Rattle.std.proofs.lemmas.List.Sums.{sum_by-cons}
 use Rattle.bdd_core.specs.Diagram.{Function, IsReduced, IsSame, IsWithin}
 use Rattle.bdd_core.specs.Store.{Diagrams, Gives, IsLive, function_of}
@@ -86,10 +85,6 @@ module _ (sources : List Source) where
     gives = gives_same x z (both start test) (both start whole) r (λ v. ap (λ (t : Bool). start v && t) (same (bits_at sources v))) step.gives;
     counts = λ u most starts. counts_more u a n x z r few (step.counts u most starts);
   }
-
-  -- the number of variables stays
-  pub vars_stay : (n : ℕ) (start : Function) (test : List Bool → Bool) (x y : Diagrams) (r : Result H Spent) → AddsHeld sources n start test x y r → length sources ≤ x.vars → length sources ≤ y.vars
-  vars_stay n start test x y r far low = subst (λ (d : Diagrams). length sources ≤ d.vars) (sym far.gives.adds.rest) low
 
   -- ---- a member
 
@@ -181,19 +176,6 @@ module _ (sources : List Source) where
         (λ bits.
         ap (λ (n : ℕ). members_meet c phase sources bits at group group.members && groups_meet c phase sources bits n (drop before groups)) next
         ∙ ap (λ (gs : List HoldGroup). groups_meet c phase sources bits at gs) (sym split))
-
-    -- none of them so far
-    pub members_start : (number : ℕ) (group : HoldGroup) (members : List Member) (at : ℕ) (d : Diagrams) (all : H) → length members ≤ at → IsReduced d.vars d.nodes → length d.nodes ≤ d.budget → IsLive d all
-        → AddsHeld sources (3 * (length members - at)) (function_of d all) (λ bits. members_meet c phase sources bits number group (drop at members)) d d (Ok all)
-    members_start number group members at d all past sound within live =
-        held_none (3 * (length members - at)) d all (λ bits. members_meet c phase sources bits number group (drop at members)) sound within live
-        (λ bits. ap (λ (ms : List Member). members_meet c phase sources bits number group ms) (drop_all at members past))
-
-    pub groups_start : (groups : List HoldGroup) (at : ℕ) (d : Diagrams) (all : H) → length groups ≤ at → IsReduced d.vars d.nodes → length d.nodes ≤ d.budget → IsLive d all
-        → AddsHeld sources (3 * members_in (drop at groups)) (function_of d all) (λ bits. groups_meet c phase sources bits at (drop at groups)) d d (Ok all)
-    groups_start groups at d all past sound within live =
-        held_none (3 * members_in (drop at groups)) d all (λ bits. groups_meet c phase sources bits at (drop at groups)) sound within live
-        (λ bits. ap (λ (gs : List HoldGroup). groups_meet c phase sources bits at gs) (drop_all at groups past))
 
     -- all of them
     pub members_all : (number : ℕ) (group : HoldGroup) (members : List Member) (at : ℕ) (start : Function) (x y : Diagrams) (r : Result H Spent) → at ≡ 0

@@ -21,9 +21,6 @@ module _ (a b : Diagrams) (f : Function) (r : Result H Spent) (g : Gives a b f r
   kept : (name : List ℕ) → IsSame (meaning b.nodes (handle name)) (meaning a.nodes (handle name))
   kept name = g.adds.kept (handle name) (live name)
 
-  pub live_after : AreLive b handle
-  live_after name = let there = live name in omega (arith, there, g.adds.longer)
-
   pub value_after : (e : Expr) → IsSame (value_in b handle e) (value_in a handle e)
   value_after e v = ap (λ (bits : List ℕ → Bool). value_of bits e) (fun_ext (λ name. kept name v))
 

@@ -4,7 +4,7 @@ use Rattle.std.specs.Prelude.{bytes_eq, find, filter_map, option_map, slice_get,
 use Rattle.std.specs.List.{cons_option, list_any, position_from}
 use Rattle.std.proofs.lemmas.Iterator.Adapters.{position_from-zero}
 use Rattle.std.proofs.lemmas.Slice.Eq.{bytes_eq-Decides}
-use Rattle.std.proofs.lemmas.Bool.{true≢false}
+use Rattle.std.proofs.lemmas.Bool.{true≢false, not-false}
 use Rattle.std.proofs.lemmas.Bool.Decides.{nat_tests}
 use Rattle.std.proofs.lemmas.Option.{none-some, same_Some, slice_get-get_or}
 use Rattle.vrt_model.proofs.Lists.{map_among}
@@ -54,15 +54,11 @@ module _ (ms : List Missing) (none : find (λ (m : Missing). not (list_any (λ (
 
 -- ---- what is asked on a line
 
-not_true : (b : Bool) → not b ≡ false → b ≡ true
-not_true true e = refl
-not_true false e = absurd (true≢false e)
-
 asked_there : (line : ℕ) (names : List Asked) (a : Asked) → first_missing line names ≡ None → Among names a → a.there ≡ true
 asked_there line names a none there = by_found (find (λ (x : Asked). not x.there) names) refl none
   where
     by_found : (o : Option Asked) → find (λ (x : Asked). not x.there) names ≡ o → option_map (λ (x : Asked). let one : Missing = record { line = line; name = x.name } in one) o ≡ None → a.there ≡ true
-    by_found None e n = not_true a.there (find_none (λ (x : Asked). not x.there) names a e there)
+    by_found None e n = not-false a.there (find_none (λ (x : Asked). not x.there) names a e there)
     by_found (Some x) e n = absurd (none-some _ (sym n))
 
 line_there : {X : Type 0} (f : X → Option Missing) (xs : List X) (x : X) → ((m : Missing) → Among (filter_map f xs) m → ⊥) → Among xs x → f x ≡ None

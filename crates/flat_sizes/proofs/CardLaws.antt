@@ -13,9 +13,6 @@ use Rattle.vrt_model.specs.declared.rules.Rules.{Rules}
 pub three_more : (a b c l x y z : ℕ) → a ≡ x → b ≡ y → c ≡ z → a + b + c + l ≡ x + (y + (z + l))
 three_more a b c l x y z d e f = omega (arith, d, e, f)
 
-more : (old new m rest behind all : ℕ) → new ≡ carried (old + m) → carried (m + behind) ≡ carried rest → carried (old + rest) ≡ carried all → carried (new + behind) ≡ carried all
-more old new m rest behind all e f g = omega (arith, e, f, g)
-
 joined : (first second third all rest : ℕ) → carried (first + rest) ≡ carried all → second ≡ carried rest → third ≡ carried (first + second) → third ≡ carried all
 joined first second third all rest e f g = omega (arith, e, f, g)
 

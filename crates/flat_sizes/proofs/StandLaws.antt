@@ -1,10 +1,10 @@
 -- Lists of the cells that stand in a cell, each so often.
-use Rattle.std.proofs.Common.{◌≡◌, ◌<◌, ◌≤◌, ◌+◌, ◌*◌, ◌∷◌, ◌++◌, [], ℕ, zero, suc, List, Option, length, get_or, drop, IsPermutation, refl, ap, ap₂, sym, ◌∙◌, arith}
+use Rattle.std.proofs.Common.{◌≡◌, ◌<◌, ◌≤◌, ◌+◌, ◌*◌, ◌∷◌, [], ℕ, zero, suc, List, Option, length, get_or, drop, IsPermutation, refl, ap, ap₂, sym, ◌∙◌, arith}
 use Rattle.std.specs.Prelude.{slice_set, unwrap_or}
 use Rattle.std.proofs.Math.Nat.{mul-add, mul-zero}
 use Rattle.std.proofs.lemmas.List.{drop_all}
 use Rattle.std.proofs.lemmas.List.Sorted.{sum_by-IsPermutation}
-use Rattle.std.proofs.lemmas.List.Sums.{sum_by-cons, sum_by-drop_more, sum_by_push}
+use Rattle.std.proofs.lemmas.List.Sums.{sum_by-cons, sum_by-drop_more}
 use Rattle.flat_sizes.proofs.Tallies.{Adding, IsDown, IsTally, Tally, card_added, card_step, four, later, level_done, level_down, level_last, more_there, none_more}
 use Rattle.flat_sizes.specs.Totals.{Adds, AddsAll, AddsOne, AddsStands, AreInside, AreNumbered, CountAlike, DescendsFrom, IsDirectlyIn, below, inside, over, stood, within}
 use Rattle.flat_sizes.specs.declared.stands.Stand.{Stand}
@@ -39,9 +39,6 @@ pub is_tally : (stands : List Stand) → IsTally (tally_of stands)
 is_tally stands = record { sum = λ f g. stood_sum f g stands; none = stood_none stands }
 
 -- ---- one more
-
-pub appended : (stands : List Stand) (s : Stand) → AddsOne s.cell s.count stands (stands ++ s ∷ [])
-appended stands s weight = ap carried (sum_by_push (share weight) stands s)
 
 -- one that is there stands so often more
 pub grown : (stands : List Stand) (at k count new : ℕ) (d : Stand) → at < length stands → (get_or stands at d).cell ≡ k → new ≡ carried ((get_or stands at d).count + count)

@@ -118,9 +118,6 @@ hold_added elements done h keys keys' groups groups' n low are next at joins =
       groups_are = grouped elements done h low are.small groups groups' n are.groups_are (ap (λ (ks : List (List ℕ)). slice_get ks n) (sym keys_are) ∙ at) joins;
     }
 
-pub none_grouped : (elements : List (List ℕ)) (keys : List (List ℕ)) (groups : List Group) → keys ≡ [] → groups ≡ [] → AreGrouped elements [] keys groups
-none_grouped elements keys groups k g = record { small = λ h m. absurd (none-some h m.1); keys_are = k; groups_are = g }
-
 -- one place more
 pub next_place : (c : Circuit) (elements : List (List ℕ)) (i : ℕ) (places : List ℕ) (place : ℕ) (keys keys' : List (List ℕ)) (groups groups' : List Group)
     → places ≡ places_by_net c → i < length places → get_or places i 0 ≡ place → AreGrouped elements (take i (holds_by_net c)) keys groups

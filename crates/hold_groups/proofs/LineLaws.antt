@@ -41,23 +41,11 @@ earlier_alone : (a : Option Line) → earlier a None ≡ a
 earlier_alone None = refl
 earlier_alone (Some a) = refl
 
-earliest_cons : (a : Option Line) (ms : List Line) → earliest (cons_option a ms) ≡ earlier a (earliest ms)
-earliest_cons None ms = refl
-earliest_cons (Some a) ms = refl
-
 earliest_joined : (xs ys : List Line) → earliest (xs ++ ys) ≡ earlier (earliest xs) (earliest ys)
 earliest_joined [] ys = refl
 earliest_joined (x ∷ xs) ys = ap (earlier (Some x)) (earliest_joined xs ys) ∙ sym (earlier_joined (Some x) (earliest xs) (earliest ys))
 
 -- ---- a loop over rules
-
--- one rule more
-pub one_more : {X : Type 0} (f : X → Option Line) (x : X) (rest behind : List X) (before found after whole : Option Line)
-    → rest ≡ x ∷ behind → found ≡ f x → after ≡ earlier before found
-    → earlier before (earliest (filter_map f rest)) ≡ whole → earlier after (earliest (filter_map f behind)) ≡ whole
-one_more f x rest behind before found after whole split is next so_far =
-    ap (λ a. earlier a (earliest (filter_map f behind))) (next ∙ ap (earlier before) is) ∙ earlier_joined before (f x) (earliest (filter_map f behind))
-    ∙ ap (earlier before) (sym (earliest_cons (f x) (filter_map f behind)) ∙ sym (ap (λ xs. earliest (filter_map f xs)) split)) ∙ so_far
 
 -- no rule is left
 pub all_looked : {X : Type 0} (f : X → Option Line) (i : ℕ) (xs : List X) (found : Option Line) → length xs ≤ i

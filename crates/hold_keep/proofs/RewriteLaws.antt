@@ -1,12 +1,11 @@
 -- Held values that are written, one after the other.
-use Rattle.std.proofs.Common.{◌≡◌, ◌≢◌, ℕ, zero, suc, ◌+◌, ◌-◌, ◌*◌, ◌<◌, ◌≤◌, Bool, true, false, cond, List, [], ◌∷◌, ◌⊎◌, Option, Some, None, Result, Ok, Err, drop, get_or, length, length-set, slice_index, arith, ap, ap₂, refl, sym, subst, ◌∙◌, inl, inr}
+use Rattle.std.proofs.Common.{◌≡◌, ◌≢◌, ℕ, zero, suc, ◌+◌, ◌-◌, ◌*◌, ◌<◌, ◌≤◌, Bool, true, false, cond, List, [], ◌∷◌, ◌⊎◌, Option, Some, Result, Ok, Err, drop, get_or, length, length-set, slice_index, arith, ap, ap₂, refl, sym, subst, ◌∙◌, inl, inr}
 use Rattle.std.specs.Prelude.{◌==◌, IfOk, find, map, slice_get, slice_set}
 use Rattle.std.proofs.Math.Seq.{drop-cons}
-use Rattle.std.proofs.lemmas.List.{drop_all}
 use Rattle.std.proofs.lemmas.List.Sums.{sum_by-cons, sum_by-take-drop}
 use Rattle.std.proofs.lemmas.Bool.{cases_eq, cases_lt, true≢false}
 use Rattle.std.proofs.lemmas.Bool.Decides.{Decides-eqb}
-use Rattle.std.proofs.lemmas.Option.{none-some, same_Some}
+use Rattle.std.proofs.lemmas.Option.{same_Some}
 use Rattle.node_pool.specs.declared.region.Node.{Node}
 use Rattle.node_pool.specs.declared.region.Span.{Span}
 use Rattle.bdd_core.proofs.Meaning.{meaning_zero}
@@ -15,7 +14,7 @@ use Rattle.bdd_core.specs.Store.{Diagrams, IsLive, IsSpan, function_of, Gives}
 use Rattle.bdd_core.specs.Words.{word_at}
 use Rattle.bdd_core.specs.declared.handle.H.{H}
 use Rattle.bdd_core.specs.declared.handle.Spent.{Spent}
-use Rattle.bdd_ops.proofs.CountingLaws.{counted_same, counts_err, counts_more, counts_none, counts_ok, counts_then, counts_value}
+use Rattle.bdd_ops.proofs.CountingLaws.{counted_same, counts_err, counts_more, counts_ok, counts_then, counts_value}
 use Rattle.bdd_ops.proofs.WithinLaws.{within_same}
 use Rattle.bdd_ops.specs.Counting.{Counts}
 use Rattle.bdd_core.proofs.Frames.{word_apart, word_here, word_other}
@@ -35,17 +34,6 @@ pub roots_same : (c : Circuit) (roots : Span) (d : Diagrams) (f g : ℕ → Func
 roots_same c roots d f g same are p h e = let here = are p h e in (here.0, λ v. here.1 v ∙ same p v)
 
 -- ---- frames
-
-pub holds_none : (c : Circuit) (roots : Span) (d : Diagrams) → IsReduced d.vars d.nodes → length d.nodes ≤ d.budget → WritesHolds c roots d d
-holds_none c roots d sound within = record {
-  rest = refl;
-  sound = sound;
-  within = within;
-  longer = omega arith;
-  kept = λ h lt v. refl;
-  len = refl;
-  others = λ j apart. refl;
-}
 
 pub holds_then : (c : Circuit) (roots : Span) (x y z : Diagrams) → WritesHolds c roots x y → WritesHolds c roots y z → WritesHolds c roots x z
 holds_then c roots x y z f s =
@@ -141,15 +129,6 @@ member_frame c roots x y z member hold held f there own span sound gives is =
 -- ---- steps
 
 module _ (c : Circuit) (roots : Span) (vars : ℕ) where
-  pub rewrites_none : (change : (ℕ → Function) → ℕ → Function) (d : Diagrams) (x : Unit {0}) → IsReduced d.vars d.nodes → length d.nodes ≤ d.budget
-      → ((f : ℕ → Function) (p : ℕ) (v : Valuation) → f p v ≡ change f p v) → Rewrites c roots vars 0 change d d (Ok x)
-  rewrites_none change d x sound within same = record {
-    writes = holds_none c roots d sound within;
-    rooted = λ f are. roots_same c roots d f (change f) (same f) are;
-    spent = tt;
-    counts = λ u most. counts_none u d x;
-  }
-
   -- one step behind others
   pub rewrites_then : (a b : ℕ) (one two both : (ℕ → Function) → ℕ → Function) (x y z : Diagrams) (o : Unit {0}) (r : Result (Unit {0}) Spent)
       → Rewrites c roots vars a one x y (Ok o) → Rewrites c roots vars b two y z r → ((f : ℕ → Function) (p : ℕ) (v : Valuation) → two (one f) p v ≡ both f p v)
@@ -214,23 +193,6 @@ module _ (c : Circuit) (roots : Span) (vars : ℕ) where
   rewrites_err a b one both x y e s most =
       record { writes = s.writes; rooted = tt; spent = s.spent; counts = λ u low. counts_more u a b x y (Err e) most (s.counts u low) }
 
-  -- a member that is no hold
-  pub rewrites_absent : (d : Diagrams) (member : Member) (bit : Function) (x : Unit {0}) → IsReduced d.vars d.nodes → length d.nodes ≤ d.budget → slice_get c.holds member.hold ≡ None
-      → Rewrites c roots vars 1 (with_hold member bit) d d (Ok x)
-  rewrites_absent d member bit x sound within none = record {
-    writes = holds_none c roots d sound within;
-    rooted = λ f are p h e.
-        let here = are p h e in
-        let other : (member.hold == p) ≡ false = not_there p h e (member.hold == p) refl in
-        (here.0, λ v. here.1 v ∙ ap (λ (b : Bool). cond b (differ member.inverted (bit v)) (f p v)) (sym other));
-    spent = tt;
-    counts = λ u most. counts_more u 0 1 d d (Ok x) (omega arith) (counts_none u d x);
-  }
-    where
-      not_there : (p : ℕ) (h : Hold) → At c.holds p h → (b : Bool) → (member.hold == p) ≡ b → b ≡ false
-      not_there p h e true t = absurd (none-some h (sym none ∙ ap (slice_get c.holds) ((Decides-eqb member.hold p).0 t) ∙ e))
-      not_there p h e false t = refl
-
   -- the held value of a member is written
   pub member_written : (x y z : Diagrams) (member : Member) (hold : Hold) (bit held : H) (o : Unit {0}) → At c.holds member.hold hold → HaveWords c roots → IsSpan x roots → IsReduced x.vars x.nodes
       → Gives x y (λ v. differ member.inverted (function_of x bit v)) (Ok held) → ((u : ℕ) → vars ≤ u → Counts {A = H} u 1 x y (Ok held))
@@ -247,12 +209,6 @@ module _ (c : Circuit) (roots : Span) (vars : ℕ) where
   joined : (t : Bool) (m : Member) (o : Option Member) (bit rest : Bool) → cond t (differ m.inverted bit) (held_by o bit rest) ≡ held_by (cond t (Some m) o) bit rest
   joined true m o bit rest = refl
   joined false m o bit rest = refl
-
-  pub members_none : (members : List Member) (at : ℕ) (bit : Function) (d : Diagrams) (o : Unit {0}) → at ≡ length members → IsReduced d.vars d.nodes → length d.nodes ≤ d.budget
-      → Rewrites c roots vars (length members - at) (with_holds (drop at members) bit) d d (Ok o)
-  members_none members at bit d o is sound within =
-      rewrites_as 0 (length members - at) (λ f. f) (with_holds (drop at members) bit) d d (Ok o) (rewrites_none (λ f. f) d o sound within (λ f p v. refl)) (omega arith)
-      (λ f p v. ap (λ (ms : List Member). held_by (find (λ (m : Member). m.hold == p) ms) (bit v) (f p v)) (sym (drop_all at members (omega (arith, is)))))
 
   module _ (members : List Member) (before at : ℕ) (m d : Member) (x y z : Diagrams) (bit : H) (o : Unit {0}) (down : before ≡ at + 1) (low : at < length members) (is : m ≡ get_or members at d)
       (live : IsLive x bit) (far : Rewrites c roots vars (length members - before) (with_holds (drop before members) (function_of x bit)) x y (Ok o)) where
@@ -283,12 +239,6 @@ module _ (c : Circuit) (roots : Span) (vars : ℕ) where
   module _ (phase : ℕ) (sources : List Source) (groups : List HoldGroup) where
     abbrev from : ℕ → (ℕ → Function) → ℕ → Function
     from at = with_groups c phase sources at (drop at groups)
-
-    pub groups_none : (at : ℕ) (d : Diagrams) (o : Unit {0}) → at ≡ length groups → IsReduced d.vars d.nodes → length d.nodes ≤ d.budget
-        → Rewrites c roots vars (2 * members_in (drop at groups)) (from at) d d (Ok o)
-    groups_none at d o is sound within =
-        rewrites_as 0 (2 * members_in (drop at groups)) (λ f. f) (from at) d d (Ok o) (rewrites_none (λ f. f) d o sound within (λ f p v. refl)) (omega arith)
-        (λ f p v. ap (λ (gs : List HoldGroup). with_groups c phase sources at gs f p v) (sym (drop_all at groups (omega (arith, is)))))
 
     pub groups_next : (before at : ℕ) (group d : HoldGroup) (x y z : Diagrams) (o : Unit {0}) (r : Result (Unit {0}) Spent) → before ≡ at + 1 → at < length groups → group ≡ get_or groups at d
         → Rewrites c roots vars (2 * members_in (drop before groups)) (from before) x y (Ok o)

@@ -3,7 +3,7 @@ use Rattle.std.proofs.Common.{◌≡◌, ◌<◌, ◌≤◌, ◌+◌, ◌++◌, 
 use Rattle.std.specs.Prelude.{◌⊎◌, slice_get}
 use Rattle.std.proofs.lemmas.Bool.{cases_eq}
 use Rattle.std.proofs.lemmas.List.{get_or-set_same, get_or-set_other, take_more, length-set}
-use Rattle.std.proofs.lemmas.Option.{slice_get_within}
+use Rattle.std.proofs.lemmas.Option.{slice_get_within, slice_get_past}
 use Rattle.vrt_model.proofs.Lists.{at_front, at_last}
 use Rattle.vrt_model.specs.Lists.{At, Among}
 use Rattle.vrt_model.specs.Nesting.{ContainsItself, IsWithin, directly, further}
@@ -38,28 +38,9 @@ one_more (false ∷ marks) zero lt new = refl
 one_more (true ∷ marks) (suc i) lt new = ap suc (one_more marks i (omega arith) new)
 one_more (false ∷ marks) (suc i) lt new = one_more marks i (omega arith) new
 
--- what is behind the end is not there
-end_of : {X : Type 0} (xs : List X) (i : ℕ) → length xs ≤ i → slice_get xs i ≡ None
-end_of [] i le = refl
-end_of (x ∷ xs) zero le = absurd (omega arith)
-end_of (x ∷ xs) (suc i) le = end_of xs i (omega arith)
-
 -- ---- one is met
 
--- that was met before
-pub met_before : (marks : List Bool) (met : List ℕ) (number : ℕ) → (number < length marks → get_or marks number false ≡ true) → HasMet marks marks met met (number ∷ [])
-met_before marks met number known = record {
-  size = refl;
-  search = λ children top inside s. s;
-  marked = λ n among lt. only n among.0 among.1 lt;
-  kept = λ n e. e;
-  before = λ i n e. e;
-} where
-  only : (n i : ℕ) → At (number ∷ []) i n → n < length marks → get_or marks n false ≡ true
-  only n zero e lt = let same : number ≡ n = cc in subst (λ k. get_or marks k false ≡ true) same (known (omega arith))
-  only n (suc i) e lt = cc
-
--- or is met now
+-- one that is met now
 met_new : (marks : List Bool) (met : List ℕ) (number : ℕ) → number < length marks → get_or marks number false ≡ false → HasMet marks (set marks number true) met (met ++ number ∷ []) (number ∷ [])
 met_new marks met number lt new = record {
   size = length-set marks number true;
@@ -106,17 +87,6 @@ met_now marks met met' number lt new e =
     subst (λ (xs : List ℕ). HasMet marks (set marks number true) met xs (number ∷ [])) (sym e) (met_new marks met number lt new)
 
 -- ---- numbers are met
-
-pub met_none : (marks : List Bool) (met : List ℕ) → HasMet marks marks met met []
-met_none marks met = record {
-  size = refl;
-  search = λ children top inside s. s;
-  marked = λ n among lt. none n among.0 among.1;
-  kept = λ n e. e;
-  before = λ i n e. e;
-} where
-  none : (n i : ℕ) → At [] i n → get_or marks n false ≡ true
-  none n i e = cc
 
 pub met_more : (a b c : List Bool) (p q r xs ys : List ℕ) → HasMet a b p q xs → HasMet b c q r ys → HasMet a c p r (xs ++ ys)
 met_more a b c p q r xs ys first second = record {
@@ -253,4 +223,4 @@ down_yes inner top at marks met down e = (down.search.shown top (down.search.mar
 pub down_no : (inner : List (List ℕ)) (top at : ℕ) (marks : List Bool) (met : List ℕ) → GoesDown inner top at marks met → length met ≤ at → get_or marks top false ≡ false
     → ¬ ContainsItself (in_list inner) top
 down_no inner top at marks met down past e self =
-    let marked : get_or marks top false ≡ true = all_marked inner top at marks met down (end_of met at past) top down.first top self in cc
+    let marked : get_or marks top false ≡ true = all_marked inner top at marks met down (slice_get_past met at past) top down.first top self in cc

@@ -58,20 +58,6 @@ fn first_of_depths(
     Ok(None)
 }
 
-/// The first that contains itself, if any does. Those that are no deeper than so many levels are passed over at once.
-pub fn first_in_itself(
-    alloc: Global,
-    inner: &[Seq<usize>],
-    levels: u32,
-) -> Result<Option<usize>, NoMemory>
-    requires inside { AreInside inner.now }
-    requires few { levels ≤ 4096 }
-    ensures { IfOk result (λ found. IsFirstItself (in_list inner.now) (length inner.now) found) }
-{
-    let depths = depths_of(alloc, inner, levels)?;
-    first_of_depths(alloc, inner, levels, depths.as_slice())
-}
-
 /// The first depth above a limit, if any is.
 fn first_deep(depths: &[u32], limit: u32) -> Option<usize>
     ensures { IsFirstAbove depths.now limit result }

@@ -7,4 +7,4 @@ mod first;
 mod reached;
 
 pub use depths::{are_shallow, depths_of, whole_depths};
-pub use first::{NestingFault, first_fault, first_in_itself};
+pub use first::{NestingFault, first_fault};

@@ -1,5 +1,5 @@
 -- Places that are unrolled card by card.
-use Rattle.std.proofs.Common.{◌≡◌, ◌<◌, ◌≤◌, ◌+◌, ◌++◌, ◌∷◌, ◌^◌, [], ℕ, zero, suc, List, length, drop, Option, Some, None, refl, ap, ap₂, sym, subst, ◌∙◌, arith, add-one, append-nil, append_assoc, length-append}
+use Rattle.std.proofs.Common.{◌≡◌, ◌<◌, ◌≤◌, ◌+◌, ◌++◌, ◌∷◌, ◌^◌, [], ℕ, zero, suc, List, length, drop, Option, Some, ap, ap₂, sym, subst, ◌∙◌, arith, add-one, append-nil, append_assoc, length-append}
 use Rattle.std.specs.Prelude.{slice_get, sum_by, unwrap_or}
 use Rattle.std.proofs.lemmas.List.{drop_all, drop_more}
 use Rattle.std.proofs.lemmas.List.Sums.{sum_by-cons}
@@ -22,14 +22,6 @@ module _ (design : Design) (tables : NetTables) where
   pub nets_there : (k : ℕ) (nets : CellNets) → slice_get tables.cells k ≡ Some nets → nets_at tables k ≡ nets
   nets_there k nets e = ap (λ (o : Option CellNets). unwrap_or o empty) e
 
-  none_there : (k : ℕ) → slice_get tables.cells k ≡ None → nets_at tables k ≡ empty
-  none_there k e = ap (λ (o : Option CellNets). unwrap_or o empty) e
-
-  pub no_own : (depth k : ℕ) → slice_get tables.cells k ≡ None → own_below tables depth k ≡ 0
-  no_own zero k e = ap (λ (nets : CellNets). length nets.names.own) (none_there k e)
-  no_own (suc depth) k e =
-      ap (λ (nets : CellNets). length nets.names.own + sum_by (λ (i : InstanceNets). own_below tables depth i.cell) nets.instances) (none_there k e)
-
   -- the own nets of a cell itself
   pub own_within : (depth k : ℕ) → own_at tables k ≤ own_below tables depth k
   own_within zero k = omega arith
@@ -44,29 +36,6 @@ module _ (design : Design) (tables : NetTables) where
       omega (arith, le, own_within depth k, room)
 
   module _ (globals : List Net) where
-    pub no_inner : (depth number : ℕ) (p : Place) → slice_get tables.cells p.cell ≡ None → places_below design tables globals depth number p ≡ p ∷ []
-    no_inner zero number p e = refl
-    no_inner (suc depth) number p e =
-        ap (λ (nets : CellNets). p ∷ inner_from design tables globals (places_below design tables globals depth) depth number p (suc number) 0 (p.base + own_at tables p.cell) nets.instances) (none_there p.cell e)
-
-    -- before the first instance
-    pub first_turn : (depth : ℕ) (p : Place) (nets : CellNets) (old new : List Place) (next : ℕ) → nets_at tables p.cell ≡ nets → new ≡ old ++ p ∷ [] → next ≡ p.base + length nets.names.own
-        → IsUnderway design tables globals depth (length old) p 0 nets.instances next new (old ++ places_below design tables globals (suc depth) (length old) p) (p.base + own_below tables (suc depth) p.cell)
-    first_turn depth p nets old new next there e n =
-        let size : length new ≡ suc (length old) = ap length e ∙ length-append old (p ∷ []) ∙ add-one (length old) in
-        let start : next ≡ p.base + own_at tables p.cell = n ∙ ap (λ (x : CellNets). p.base + length x.names.own) (sym there) in
-        let rest : List Place = inner_from design tables globals (places_below design tables globals depth) depth (length old) p (suc (length old)) 0 (p.base + own_at tables p.cell) (nets_at tables p.cell).instances in
-        record {
-          whole =
-              ap₂ (λ (m b : ℕ). new ++ inner_from design tables globals (places_below design tables globals depth) depth (length old) p m 0 b nets.instances) size start
-              ∙ ap (λ (x : CellNets). new ++ inner_from design tables globals (places_below design tables globals depth) depth (length old) p (suc (length old)) 0 (p.base + own_at tables p.cell) x.instances) (sym there)
-              ∙ ap (λ (ps : List Place). ps ++ rest) e
-              ∙ append_assoc old (p ∷ []) rest;
-          room =
-              let same = ap (λ (x : CellNets). sum_by (λ (i : InstanceNets). own_below tables depth i.cell) x.instances) (sym there) in
-              omega (arith, start, same);
-        }
-
     -- an instance more
     one_turn : (depth around : ℕ) (p : Place) (card : ℕ) (i : InstanceNets) (rest : List InstanceNets) (next after : ℕ) (places new all : List Place) (last : ℕ)
         → IsUnderway design tables globals depth around p card (i ∷ rest) next places all last

@@ -1,7 +1,7 @@
 -- One device: what it passes on in one direction, and in both.
 use Rattle.std.proofs.Common.{◌≡◌, ◌≢◌, ℕ, ◌+◌, ◌<◌, ◌≤◌, Bool, true, false, cond, not, ◌||◌, ◌&&◌, List, Option, Some, None, Ok, get_or, ap, ap₂, refl, sym, subst, ◌∙◌, inl, inr}
 use Rattle.std.proofs.lemmas.Bool.{cases_eq, or_cases, and_parts, or_left, or_right, and_from}
-use Rattle.std.proofs.lemmas.Option.{same_Some}
+use Rattle.std.proofs.lemmas.Option.{same_Some, none-some}
 use Rattle.node_pool.specs.declared.region.Span.{Span}
 use Rattle.bdd_core.specs.declared.handle.H.{H}
 use Rattle.bdd_core.specs.Diagram.{Valuation, meaning}
@@ -70,9 +70,6 @@ module _ (out : NetWords) (level : ℕ) (kind : Kind) (gate signal : ℕ) (i : �
     ];
     same = λ e. wider.same e ∙ adds_words old mid old.words made.adds;
   }
-
-none-some : {X : Type 0} (x : X) → None ≡ Some x → ⊥
-none-some x e = cc e
 
 -- one direction, from the net m to the net n
 module _ (c : Circuit) (part : Part) (is_part : IsPart c part) (gates : Span) (out : NetWords) (level : ℕ) (low : 1 ≤ level) (high : level ≤ out.source)

@@ -1,13 +1,13 @@
 -- The output pins of a circuit, instance by instance, and their roots.
 use Rattle.std.proofs.Common.{◌≡◌, ℕ, ◌+◌, ◌<◌, ◌≤◌, ◌⊎◌, ◌++◌, ◌∷◌, [], ◌==◌, Bool, true, cond, List, length, map, take, drop, arith, ap, refl, sym, subst, ◌∙◌, inl, inr}
 use Rattle.std.specs.Prelude.{flat_map}
-use Rattle.std.proofs.lemmas.Bool.{cases_Bool, eq-eqb, eqb-true}
+use Rattle.std.proofs.lemmas.Bool.{eq-eqb}
 use Rattle.std.proofs.lemmas.Grind.{flat_map-append}
 use Rattle.std.proofs.lemmas.List.{length-append, length-take-le, map-append, take-append-drop, take_all}
 use Rattle.std.proofs.lemmas.Option.{slice_get_within}
 use Rattle.std.proofs.lemmas.List.Sums.{sum_by-append, sum_by-cons, sum_by-take-le}
 use Rattle.vrt_model.proofs.Lists.{at_back, at_either, at_front, at_last, at_split, take_one}
-use Rattle.vrt_model.proofs.Members.{all_among, among_any, among_flat_map, among_later, any_among, flat_map_among}
+use Rattle.vrt_model.proofs.Members.{all_among, among_any, among_flat_map, flat_map_among}
 use Rattle.vrt_model.specs.Circuits.{IsDrive, IsNet, IsWhole}
 use Rattle.vrt_model.specs.Levels.{source_level}
 use Rattle.vrt_model.specs.Lists.{At, Among}
@@ -103,27 +103,9 @@ at_more part xs pin i p =
 pub at_grows : (part : Part) (xs : List WholePin) (pin : WholePin) → pins_at part xs ≤ pins_at part (xs ++ pin ∷ [])
 at_grows part xs pin = omega (arith, at_append part xs (pin ∷ []))
 
--- pins of which none is at a net of the part
-pub none_at : (part : Part) (pins : List WholePin) → ((pin : WholePin) → Among pins pin → (i : ℕ) → IsPlace part i pin.net.0 → ⊥) → pins_at part pins ≡ 0
-none_at part [] away = refl
-none_at part (pin ∷ pins) away =
-    let rest : pins_at part pins ≡ 0 = none_at part pins (λ p m. away p (among_later pin pins p m)) in
-    let all = sum_by-cons (λ (p : WholePin). cond (has_net part p.net.0) 1 0) pin pins in
-    elim (cases_Bool (has_net part pin.net.0)) [
-      | inr off ↦ omega (arith, rest, all, ap {B = ℕ} (λ (b : Bool). cond b 1 0) off)
-      | inl on ↦
-          let there = any_among (λ (net : Net). net.0 == pin.net.0) part.nets on in
-          absurd (away pin (0, refl) there.1.0 (there.0, there.1.1, eqb-true there.0.0 pin.net.0 there.2))
-    ]
-
 -- a circuit without whole instances has none
 pub pins_none : (c : Circuit) → c.wholes ≡ [] → pins_of c ≡ []
 pins_none c none = pins_each c ∙ ap (λ (ws : List Whole). outputs_of ws) none
-
-pub flat_at : (c : Circuit) (part : Part) → c.wholes ≡ [] → pins_at part (pins_of c) ≡ 0
-flat_at c part none =
-    let empty : pins_at part [] ≡ 0 = refl in
-    ap (λ (ps : List WholePin). pins_at part ps) (pins_none c none) ∙ empty
 
 pub taken_at : (part : Part) (xs : List WholePin) (i : ℕ) → pins_at part (take i xs) ≤ pins_at part xs
 taken_at part xs i = sum_by-take-le (λ (pin : WholePin). cond (has_net part pin.net.0) 1 0) xs i

@@ -66,9 +66,6 @@ part_passes c part is = all_by (IsPartDevice c part) part.devices (λ dev m.
       right = λ d here. is.right d (among d here);
     })
 
-net_same : (a b : Net) → a.0 ≡ b.0 → a ≡ b
-net_same a b e = let build : ℕ → Net = λ n. record { 0 = n } in ap build e
-
 here : (part : Part) (i : ℕ) → i < length part.nets → IsPlace part i (net_at part.nets i)
 here part i lt = (get_or part.nets i (record { 0 = 0 }), slice_get-get_or part.nets i (record { 0 = 0 }) lt, refl)
 

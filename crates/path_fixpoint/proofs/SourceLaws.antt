@@ -1,7 +1,7 @@
 -- The roots of a value, one after the other, and what they are at each valuation.
 use Rattle.std.proofs.Common.{◌≡◌, ◌≢◌, ℕ, ◌+◌, ◌*◌, ◌<◌, ◌≤◌, ◌⊎◌, Bool, true, false, cond, ◌||◌, List, length, Ok, get_or, arith, ap, refl, sym, subst, ◌∙◌, inl, inr}
 use Rattle.std.specs.Prelude.{◌↔◌}
-use Rattle.std.proofs.lemmas.Bool.{cases_eq, cases_lt, false≢true, or_cases, or_left, or_right}
+use Rattle.std.proofs.lemmas.Bool.{cases_eq, cases_lt, false≢true, or_cases, or_left, or_right, false_from_ne_true}
 use Rattle.std.proofs.lemmas.Option.{slice_get_within}
 use Rattle.node_pool.specs.declared.region.Span.{Span}
 use Rattle.bdd_core.specs.declared.handle.H.{H}
@@ -167,10 +167,6 @@ module _ (part : Part) (once : (i j n : ℕ) → IsPlace part i n → IsPlace pa
 
 -- ---- the roots of the network
 
-false_or_true : (b : Bool) → (b ≡ true → ⊥) → b ≡ false
-false_or_true true h = absurd (h refl)
-false_or_true false h = refl
-
 module _ (c : Circuit) (part : Part) (is_part : IsPart c part) (in_range : HasRanges c) (gates roots : Span) (out : NetWords) (value : Bool) (old a b d new : Diagrams) (words : HasRootWords c part gates roots out old)
     (zero : (i : ℕ) → i < length part.nets → word_at a out.span (word_of out (slot_of out value) i) ≡ 0) (wa : Writes out.span old a) (ca : ChangesLevel out (slot_of out value) old a)
     (wb : Writes out.span a b) (cb : ChangesLevel out (slot_of out value) a b) (wd : Writes out.span b d) (cd : ChangesLevel out (slot_of out value) b d)
@@ -219,7 +215,7 @@ module _ (c : Circuit) (part : Part) (is_part : IsPart c part) (in_range : HasRa
 
   -- a net that is as strong as a root is not one level stronger
   not_above : (n size i : ℕ) → IsPlace part i n → size ≡ s n → size < out.source → strong old out (size + 1) i v ≡ false
-  not_above n size i p e lt = false_or_true (strong old out (size + 1) i v)
+  not_above n size i p e lt = false_from_ne_true (strong old out (size + 1) i v)
       (λ on. let le = at_least-strength w n (s n) (size + 1) (is.strength n) ((is.solved (size + 1) (omega arith) (omega (arith, lt)) i n p).0 on) in omega (arith, le, e))
 
   -- a root of an output outside the part is weaker than a given net

@@ -1,5 +1,5 @@
 -- Counts of the operations on the words of a part, one step after another.
-use Rattle.std.proofs.Common.{◌≡◌, ℕ, ◌+◌, ◌*◌, ◌<◌, ◌≤◌, Bool, not, ◌&&◌, Option, Some, None, List, length, Result, Ok, Err, slice_index, arith, ap, ap₂, refl, sym, subst, inl, inr}
+use Rattle.std.proofs.Common.{◌≡◌, ℕ, ◌+◌, ◌*◌, ◌<◌, ◌≤◌, Bool, not, ◌&&◌, Option, Some, None, List, length, Result, Ok, Err, slice_index, arith, ap, ap₂, sym, subst, inl, inr}
 use Rattle.std.specs.Prelude.{IfSome, slice_set}
 use Rattle.std.proofs.Math.Nat.{add-mul, mul_assoc, mul_comm, mul-le-mul_right}
 use Rattle.std.proofs.lemmas.Bool.{cases_eq}
@@ -12,7 +12,7 @@ use Rattle.bdd_core.specs.Store.{Diagrams, Makes, Means, function_of}
 use Rattle.bdd_core.specs.Words.{IsApart, IsFilled, Writes, shows, word_at}
 use Rattle.bdd_core.proofs.Results.{if_ok_more}
 use Rattle.bdd_ops.specs.Counting.{Counts, IsCounted, IsSpanWithin}
-use Rattle.bdd_ops.proofs.CountingLaws.{counted_same, counted_then, counts_err, counts_made, counts_more, counts_none, counts_ok, counts_then, counts_value}
+use Rattle.bdd_ops.proofs.CountingLaws.{counted_same, counted_then, counts_err, counts_made, counts_more, counts_ok, counts_then, counts_value}
 use Rattle.bdd_ops.proofs.WithinLaws.{span_kept, within_same, within_zero}
 use Rattle.vrt_model.specs.Lists.{differ}
 use Rattle.vrt_model.specs.Reading.{conducts_at}
@@ -68,9 +68,6 @@ module _ (u : ℕ) where
   offered_within d roots out value side place n lt fits roots_in all = λ v w same. ap (λ (b : Bool). is_on_side side place && b) (reached_within d roots out value place n lt fits roots_in all v w same)
 
   module _ (out : Span) where
-    pub rewrites_none : (d : Diagrams) → IsSpanWithin u d out → Rewrites u out d d
-    rewrites_none d all = record { counted = counted_same u d d refl refl; within = all }
-
     pub rewrites_then : (x y z : Diagrams) → Rewrites u out x y → Rewrites u out y z → Rewrites u out x z
     rewrites_then x y z f s = record { counted = counted_then u 0 0 x y z f.counted s.counted; within = s.within }
 
@@ -90,9 +87,6 @@ module _ (u : ℕ) where
         }
 
     module _ {A : Type 0} where
-      pub spends_none : (d : Diagrams) (x : A) → IsSpanWithin u d out → Spends u 0 out d d (Ok x)
-      spends_none d x all = record { counts = counts_none u d x; within = all }
-
       pub spends_more : (a b : ℕ) (old new : Diagrams) (r : Result A Spent) → a ≤ b → Spends u a out old new r → Spends u b out old new r
       spends_more a b old new r le s = record { counts = counts_more u a b old new r le s.counts; within = s.within }
 

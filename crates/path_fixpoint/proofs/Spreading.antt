@@ -1,5 +1,5 @@
 -- Both directions of a device, and one device after another.
-use Rattle.std.proofs.Common.{◌≡◌, ℕ, ◌+◌, ◌<◌, ◌≤◌, ◌⊎◌, Bool, true, false, ◌||◌, ◌&&◌, List, length, Option, Some, None, arith, ap, refl, sym, subst, ◌∙◌, inl, inr}
+use Rattle.std.proofs.Common.{◌≡◌, ℕ, ◌+◌, ◌<◌, ◌≤◌, ◌⊎◌, Bool, true, ◌||◌, ◌&&◌, List, length, Option, Some, None, arith, ap, refl, sym, subst, ◌∙◌, inl, inr}
 use Rattle.std.specs.Prelude.{slice_get}
 use Rattle.std.proofs.lemmas.Bool.{and_from, and_parts, cases_lt, or_parts}
 use Rattle.std.proofs.lemmas.Option.{same_Some, slice_get_within}
@@ -82,15 +82,6 @@ outside_given c part (Some i) net e h none = absurd (cc none)
 -- one device, in both directions
 module _ (c : Circuit) (part : Part) (is_part : IsPart c part) (in_range : HasRanges c) (gates : Span) (out : NetWords) (level : ℕ) (low : 1 ≤ level) (high : level ≤ out.source) (side : Side)
     (d : Device) (member : Among (part_devices c part) d) where
-  -- too weak for the level
-  pub spreads_weak : (s : Diagrams) → d.level < level → Spreads c part gates out level side (λ x. x ≡ d) false s s
-  spreads_weak s weak = record {
-    grown = λ i lt v e. e;
-    passed = λ x is v w st on le m n j lies str. absurd (let same : x.level ≡ d.level = ap (λ (y : Device). y.level) is in omega (arith, le, weak, same));
-    paths = λ v w st paths. paths;
-    same = λ e. refl;
-  }
-
   module _ (left right : Option ℕ) (left_is : EndIs part left d.left.0) (right_is : EndIs part right d.right.0) (le : level ≤ d.level)
       (old mid new : Diagrams) (gate there here : ℕ) (forth back : Bool) (words : HasWords c part gates out old) (gate_is : gate ≡ word_at old gates d.gate.0)
       (here_live : here < length old.nodes)
@@ -159,14 +150,6 @@ module _ (c : Circuit) (part : Part) (is_part : IsPart c part) (in_range : HasRa
 
 -- one step after another
 module _ (c : Circuit) (part : Part) (gates : Span) (out : NetWords) (level : ℕ) (low : 1 ≤ level) (high : level ≤ out.source) (side : Side) where
-  pub spreads_none : (IsPassed : Device → Type 0) (s : Diagrams) → ((d : Device) → IsPassed d → ⊥) → Spreads c part gates out level side IsPassed false s s
-  spreads_none IsPassed s none = record {
-    grown = λ i lt v e. e;
-    passed = λ d is. absurd (none d is);
-    paths = λ v w st paths. paths;
-    same = λ e. refl;
-  }
-
   pub spreads_less : (P R : Device → Type 0) (a : Bool) (x y : Diagrams) → ((d : Device) → R d → P d) → Spreads c part gates out level side P a x y → Spreads c part gates out level side R a x y
   spreads_less P R a x y less s = record { grown = s.grown; passed = λ d is. s.passed d (less d is); paths = s.paths; same = s.same }
 

@@ -65,11 +65,6 @@ module _ (model : FlatModel) (slice : List DontCare) (table : List (Option ℕ))
       put n ∙ ap (λ (ds : List DontCare). bit_of ds n (get_or table n None)) listed
       ∙ ap (λ (o : Option ℕ). bit_of model.dontcares n o) (ap (λ (t : List (Option ℕ)). get_or t n None) bare ∙ no_bit count n)
 
--- where there are no don't cares, an empty table will do
-pub bits_none : (model : FlatModel) (table : List (Option ℕ)) → table ≡ [] → model.dontcares ≡ [] → AreDontCareBits model table
-bits_none model table empty none n =
-    ap (λ (t : List (Option ℕ)). get_or t n None) empty ∙ ap (λ (ds : List DontCare). bit_of ds n None) (sym none)
-
 -- a bit that the table has is that of a don't care
 pub bit_among : (ds : List DontCare) (n bit : ℕ) (o : Option ℕ) → bit_of ds n o ≡ Some bit → (o ≡ Some bit) ⊎ ((d : DontCare) × Among ds d × (d.bit ≡ bit))
 bit_among [] n bit o e = inl e

@@ -1,18 +1,16 @@
 -- Of which nets the wishes of holds speak.
-use Rattle.std.proofs.Common.{◌≡◌, ℕ, zero, suc, ◌<◌, ◌≤◌, ◌&&◌, ◌||◌, true, All, length, List, Some, eqb, arith, subst, sym}
+use Rattle.std.proofs.Common.{◌≡◌, ℕ, zero, suc, ◌&&◌, ◌||◌, true, List, eqb, subst}
 use Rattle.std.specs.Prelude.{is_some}
 use Rattle.std.specs.List.{list_any}
 use Rattle.std.proofs.lemmas.Bool.{eq-eqb, or_left, or_right}
 use Rattle.std.proofs.lemmas.Option.{same_Some}
 use Rattle.phase_wishes.specs.Held.{IsHoldNet, IsHoldWish, IsOfHold}
-use Rattle.phase_wishes.specs.Missed.{IsFreeInside, IsInside, IsWithinBits, nets_in, nets_of}
+use Rattle.phase_wishes.specs.Missed.{nets_in, nets_of}
 use Rattle.phase_wishes.specs.declared.wishes.Wanted.{Wanted}
 use Rattle.phase_wishes.specs.declared.wishes.Wanted.TheVariants.{Signal, Element, Other, Constant}
 use Rattle.phase_wishes.specs.declared.wishes.Wish.{Wish}
-use Rattle.phase_wishes.specs.declared.wishes.WishBits.{WishBits}
-use Rattle.vrt_model.proofs.Members.{all_among, all_by, among_any, at_none}
+use Rattle.vrt_model.proofs.Members.{among_any, at_none}
 use Rattle.vrt_model.specs.CellRules.{is_constrained, is_observed_port}
-use Rattle.vrt_model.specs.Circuits.{IsCircuit, IsHold}
 use Rattle.vrt_model.specs.Comparison.{CellPort, Comparison, cell_at, is_observed, output_signal, ports_of}
 use Rattle.vrt_model.specs.Lists.{Among}
 use Rattle.vrt_model.specs.declared.circuit.Circuit.{Circuit}
@@ -49,18 +47,3 @@ hold_nets c groups wish n is (suc i, e) = other wish.wanted is.1 (i, e)
     other (Other net inverted) of (zero, e) = subst (IsHoldNet c) (same_Some net.0 n e) of
     other (Other net inverted) of (suc i, e) = absurd (at_none i n e)
     other (Constant v) of m = absurd (at_none m.0 n m.1)
-
--- there are handles for such wishes where there is one for each net, and for each element that a group reaches
-pub hold_inside : (c : Circuit) (groups : List Group) (bits : WishBits) (wishes : List Wish) → IsCircuit c → length c.nets ≤ bits.gates.len
-    → ((group : Group) (e : ℕ) → Among groups group → group.element ≡ Some e → e < bits.next.len) → All (IsHoldWish c groups) wishes → All (IsWithinBits bits) wishes
-hold_inside c groups bits wishes circuit nets elements all =
-    all_by (IsWithinBits bits) wishes (λ wish m. let is = all_among (IsHoldWish c groups) wishes wish all m in (low wish.net.0 is.0, inside wish.wanted is.1, subst (IsFreeInside bits) (sym is.2) tt))
-  where
-    low : (n : ℕ) → IsHoldNet c n → n < bits.gates.len
-    low n hold = let below = (all_among (IsHold c) c.holds hold.0 circuit.holds hold.1).net in let is = hold.2 in omega (arith, below, is, nets)
-
-    inside : (wanted : Wanted) → IsOfHold c groups wanted → IsInside bits wanted
-    inside (Signal signal) of = absurd of
-    inside (Element element inverted) of = elements of.0 element of.1 of.2
-    inside (Other net inverted) of = low net.0 of
-    inside (Constant v) of = tt

@@ -1,6 +1,7 @@
 -- What output ports ought to be given.
-use Rattle.std.proofs.Common.{◌≡◌, ℕ, zero, suc, Bool, true, false, not, List, [], ◌∷◌, Option, Some, ap, ap₂, refl, sym, subst, ◌∙◌}
+use Rattle.std.proofs.Common.{◌≡◌, ℕ, zero, suc, Bool, true, false, not, List, [], ◌∷◌, Option, Some, ap, ap₂, sym, subst, ◌∙◌}
 use Rattle.std.proofs.lemmas.Option.{same_Some}
+use Rattle.std.proofs.lemmas.Bool.{not-true}
 use Rattle.phase_wishes.proofs.SpotLaws.{same_stage}
 use Rattle.phase_wishes.specs.Wishes.{AreFreeBits, AreOutputWishes, AreWishesOf, IsSeenOutput, IsWish, Says, is_asked, wanted_bit}
 use Rattle.phase_wishes.specs.declared.wishes.Wanted.{Wanted}
@@ -18,14 +19,10 @@ use Rattle.vrt_model.specs.Reading.{Partial}
 use Rattle.vrt_model.specs.declared.verdict.FaultKind.{FaultKind}
 use Rattle.vrt_model.specs.declared.verdict.FaultKind.TheVariants.{Differs}
 
-not_true : (b : Bool) → not b ≡ true → b ≡ false
-not_true true e = sym e
-not_true false e = refl
-
 module _ (k : Comparison) (phase : ℕ) (wishes : List Wish) (are : AreOutputWishes k phase wishes) (free : AreFreeBits k wishes) where
   -- where it is asked for, the signal is not free
   is_cared : (wish : Wish) (signal : ℕ) (g : Assignment) → Among wishes wish → wish.wanted ≡ Signal signal → is_asked wish g ≡ true → is_free k.model g signal ≡ false
-  is_cared wish signal g m wanted asked = not_true (is_free k.model g signal) (sym (free wish signal g m wanted) ∙ asked)
+  is_cared wish signal g m wanted asked = not-true (is_free k.model g signal) (sym (free wish signal g m wanted) ∙ asked)
 
   is_wish : (wish : Wish) → Among wishes wish → IsWish k phase wish
   is_wish wish m a g asked =

@@ -1,5 +1,5 @@
 -- What is put into a table by net, one after the other.
-use Rattle.std.proofs.Common.{◌≡◌, ℕ, zero, suc, ◌+◌, ◌<◌, ◌≤◌, ◌⊎◌, Bool, List, [], ◌∷◌, Option, Some, length, arith, refl, sym, subst, ◌∙◌, inl, inr}
+use Rattle.std.proofs.Common.{◌≡◌, ℕ, zero, suc, ◌+◌, ◌<◌, ◌≤◌, ◌⊎◌, Bool, List, ◌∷◌, Option, Some, length, arith, refl, sym, subst, ◌∙◌, inl, inr}
 use Rattle.std.proofs.lemmas.Bool.{cases_eq}
 use Rattle.std.proofs.lemmas.Option.{same_Some, slice_get_within}
 use Rattle.phase_wishes.specs.Held.{IsOfEnter, IsOfEnters, IsOfGroup, IsOfMember, IsOfMembers, Puts, alone, base_of}
@@ -8,18 +8,10 @@ use Rattle.vrt_model.specs.declared.groups.Group.{Group}
 use Rattle.vrt_model.specs.declared.groups.Member.{Member}
 use Rattle.phase_wishes.specs.declared.wishes.Wanted.{Wanted}
 use Rattle.phase_wishes.specs.declared.wishes.Wanted.TheVariants.{Constant}
-use Rattle.vrt_model.proofs.Members.{among_later, at_none}
-use Rattle.vrt_model.specs.Lists.{Among, At}
+use Rattle.vrt_model.proofs.Members.{among_later}
+use Rattle.vrt_model.specs.Lists.{Among}
 use Rattle.vrt_model.specs.Variables.{enter_of}
 use Rattle.vrt_model.specs.declared.circuit.Circuit.{Circuit}
-
-pub puts_none : (P : ℕ → Wanted → Type 0) (t : List (Option Wanted)) → ((n : ℕ) (w : Wanted) → P n w → ⊥) → Puts P t t
-puts_none P t none = record {
-  len = refl;
-  kept = λ n w e. inl e;
-  there = λ n w p lt. absurd (none n w p);
-  stay = λ n w e. (w, e);
-}
 
 pub puts_as : (P Q : ℕ → Wanted → Type 0) (a b : List (Option Wanted)) → ((n : ℕ) (w : Wanted) → P n w → Q n w) → ((n : ℕ) (w : Wanted) → Q n w → P n w) → Puts P a b → Puts Q a b
 puts_as P Q a b to from p = record {
@@ -53,9 +45,6 @@ module _ (X : Type 0) (Each : X → ℕ → Wanted → Type 0) where
   abbrev IsOfAny : List X → ℕ → Wanted → Type 0
   IsOfAny xs n w = (x : X) × Among xs x × Each x n w
 
-  pub puts_nothing : (xs : List X) (t : List (Option Wanted)) → xs ≡ [] → Puts (IsOfAny xs) t t
-  puts_nothing xs t e = puts_none (IsOfAny xs) t (λ n w is. at_none is.1.0 is.0 (subst (λ (ys : List X). At ys is.1.0 is.0) e is.1.1))
-
   pub puts_more : (x : X) (xs : List X) (a b c : List (Option Wanted)) → Puts (Each x) a b → Puts (IsOfAny xs) b c → Puts (IsOfAny (x ∷ xs)) a c
   puts_more x xs a b c p q = puts_then (Each x) (IsOfAny xs) (IsOfAny (x ∷ xs)) a b c to from p q
     where
@@ -71,15 +60,9 @@ module _ (X : Type 0) (Each : X → ℕ → Wanted → Type 0) where
   abbrev pub IsPutting : List X → List (Option Wanted) → List X → List (Option Wanted) → Type 0
   IsPutting all first rest t = (last : List (Option Wanted)) → Puts (IsOfAny rest) t last → Puts (IsOfAny all) first last
 
-  pub putting_begun : (all : List X) (first : List (Option Wanted)) → IsPutting all first all first
-  putting_begun all first last p = p
-
   pub putting_step : (all rest : List X) (x : X) (behind : List X) (first t u : List (Option Wanted)) → rest ≡ x ∷ behind → IsPutting all first rest t → Puts (Each x) t u → IsPutting all first behind u
   putting_step all rest x behind first t u e putting p last q =
       putting last (subst (λ (ys : List X). Puts (IsOfAny ys) t last) (sym e) (puts_more x behind t u last p q))
-
-  pub putting_done : (all rest : List X) (first t : List (Option Wanted)) → rest ≡ [] → IsPutting all first rest t → Puts (IsOfAny all) first t
-  putting_done all rest first t e putting = putting t (puts_nothing rest t e)
 
 -- ---- `enter` lines
 
@@ -92,9 +75,6 @@ module _ (c : Circuit) (phase : ℕ) where
   enter_is place v a b e p =
       puts_as (IsOfMember c (Constant v) (alone place)) (IsOfEnter c phase place) a b (λ n w is. (v, e, is))
       (λ n w is. subst (λ (x : Bool). IsOfMember c (Constant x) (alone place) n w) (sym (same_Some v is.0 (sym e ∙ is.1))) is.2) p
-
-  pub enters_begun : (t : List (Option Wanted)) → Puts (IsOfEntersTo 0) t t
-  enters_begun t = puts_none (IsOfEntersTo 0) t (λ n w is. (let lt = is.1 in omega (arith, lt)))
 
   pub enters_more : (place : ℕ) (first t u : List (Option Wanted)) → Puts (IsOfEntersTo place) first t → Puts (IsOfEnter c phase place) t u → Puts (IsOfEntersTo (place + 1)) first u
   enters_more place first t u p q =

@@ -41,10 +41,6 @@ module _ (kinds : List FaultKind) (k : Comparison) (phase : ℕ) (wishes : List 
         missed = λ same. m.3 (ap a (sym says.net_is) ∙ same ∙ says.wanted_is);
       }
 
-  -- at a place of one of the kinds a wish is missed exactly where the solution does not give what it ought to
-  pub missed_of : (x : Spot) (a : Partial) (g : Assignment) → Among kinds x.kind → IsMissed wishes x a g ↔ Misses k phase a g x.kind x.at
-  missed_of x a g among = (misses x a g, missed x a g among)
-
   -- ---- each place once
 
   later : (i j : ℕ) (x y : Wish) → At wishes i x → At wishes j y → spot_of x ≡ spot_of y → i < j → ⊥

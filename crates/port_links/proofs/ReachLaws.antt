@@ -16,18 +16,6 @@ use Rattle.vrt_model.specs.Lists.{At, Among, mark_at}
 
 -- ---- one number
 
-pub met_before : (marks : List Bool) (met : List ℕ) (number : ℕ) → (number < length marks → mark_at marks number ≡ true) → HasMet marks marks met met (number ∷ [])
-met_before marks met number known = record {
-  size = refl;
-  kept = λ n e. e;
-  found = λ n m lt.
-      let same = the_item number n m in
-      subst (λ (k : ℕ). mark_at marks k ≡ true) same (known (subst (λ (k : ℕ). k < length marks) (sym same) lt));
-  only = λ n e. inl e;
-  before = λ k n at. at;
-  listing = λ l. l;
-}
-
 pub met_now : (marks : List Bool) (met met' : List ℕ) (number : ℕ) → number < length marks → mark_at marks number ≡ false → met' ≡ met ++ number ∷ []
     → HasMet marks (set marks number true) met met' (number ∷ [])
 met_now marks met met' number lt new is = subst (λ (xs : List ℕ). HasMet marks (set marks number true) met xs (number ∷ [])) (sym is) added
@@ -77,16 +65,6 @@ met_now marks met met' number lt new is = subst (λ (xs : List ℕ). HasMet mark
     }
 
 -- ---- several numbers
-
-pub met_none : (marks : List Bool) (met : List ℕ) → HasMet marks marks met met []
-met_none marks met = record {
-  size = refl;
-  kept = λ n e. e;
-  found = λ n m lt. absurd (at_none m.0 n m.1);
-  only = λ n e. inl e;
-  before = λ k n at. at;
-  listing = λ l. l;
-}
 
 pub met_more : (a b c : List Bool) (p q r xs ys : List ℕ) → HasMet a b p q xs → HasMet b c q r ys → HasMet a c p r (xs ++ ys)
 met_more a b c p q r xs ys one two = record {

@@ -8,9 +8,6 @@ use Rattle.rules_expression.specs.declared.tokens.Token.{Token}
 use Rattle.rules_expression.specs.declared.tokens.Token.TheVariants.{Name, Bang, Ampersand, Caret, Bar, Opening, Closing}
 use Rattle.rules_expression.proofs.Complete.{not_inside, one_more}
 
-Tokens : Type 0
-Tokens = List Token
-
 -- tokens before an operand, with which it is a longer expression
 abbrev Before : ℕ → ℕ → (Formula → Formula) → List Token → Type 0
 Before k l make ts = (us : List Token) (g : Formula) → Spells k us g → Spells l (ts ++ us) (make g)

@@ -1,5 +1,5 @@
 -- What a line says is what it says as one with a list of words, or as one without.
-use Rattle.std.proofs.Common.{◌≡◌, ◌∷◌, ◌<◌, ◌||◌, [], ℕ, List, Bool, true, false, cond, length, codes, bytes_eq, Option, None, refl, sym, subst, arith}
+use Rattle.std.proofs.Common.{◌≡◌, ◌||◌, ℕ, List, Bool, true, false, cond, codes, bytes_eq, Option, None, refl, sym, subst}
 use Rattle.std.proofs.lemmas.Slice.Eq.{bytes_eq-Decides}
 use Rattle.rules_lines.specs.Lines.{assume_entry, clock_entry, clockport_entry, defaultclock_entry, device_entry, enter_entry, entry_by, hold_entry, keeper_entry, match_entry, observe_entry, pair_entry, phase_entry, port_entry, scale_entry, strength_entry, supply_entry}
 use Rattle.rules_lines.specs.Long.{is_long, long_entry, short_entry}
@@ -65,27 +65,3 @@ long_line word rest h =
     (named word (codes "phase") rest refl))
     (named word (codes "observe") rest refl))
     (named word (codes "assume") rest refl) h
-
--- a test before nothing
-no_entry : (t : Bool) (x y : Option Entry) → x ≡ None → y ≡ None → cond t x y ≡ None
-no_entry true x y p q = p
-no_entry false x y p q = q
-
--- more than four words behind the first
-pub too_many : (word : List ℕ) (rest : List (List ℕ)) → 4 < length rest → short_entry word rest ≡ None
-too_many word [] h = absurd (omega (arith, h))
-too_many word (a ∷ []) h = absurd (omega (arith, h))
-too_many word (a ∷ b ∷ []) h = absurd (omega (arith, h))
-too_many word (a ∷ b ∷ c ∷ []) h = absurd (omega (arith, h))
-too_many word (a ∷ b ∷ c ∷ d ∷ []) h = absurd (omega (arith, h))
-too_many word (a ∷ b ∷ c ∷ d ∷ e ∷ rest) h =
-    no_entry (test word (codes "scale")) _ _ refl
-    (no_entry (test word (codes "device")) _ _ refl
-    (no_entry (test word (codes "strength")) _ _ refl
-    (no_entry (test word (codes "pair")) _ _ refl
-    (no_entry (test word (codes "port")) _ _ refl
-    (no_entry (test word (codes "hold")) _ _ refl
-    (no_entry (test word (codes "match")) _ _ refl
-    (no_entry (test word (codes "clockport")) _ _ refl
-    (no_entry (test word (codes "defaultclock")) _ _ refl
-    (no_entry (test word (codes "enter")) _ _ refl refl)))))))))

@@ -60,8 +60,8 @@ fn ten_and(last: u8) -> Option<u8>
     }
 }
 
-/// A level of the fine scale.
-fn fine(word: &[u8]) -> Option<u8>
+/// A level of scale 16.
+fn fine_level(word: &[u8]) -> Option<u8>
     ensures { result ≡ fine_level word.now }
 {
     match word {
@@ -76,7 +76,7 @@ pub fn level(word: &[u8]) -> ByScale
 {
     ByScale {
         eight: digit(4, 7, word),
-        sixteen: fine(word),
+        sixteen: fine_level(word),
     }
 }
 

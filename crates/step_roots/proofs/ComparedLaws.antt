@@ -7,7 +7,7 @@ use Rattle.bdd_core.specs.Diagram.{Function, IsReduced, Valuation, bit_of, choic
 use Rattle.bdd_core.specs.Store.{AddsNodes, Diagrams, Gives, IsLive, Makes, function_of}
 use Rattle.bdd_core.specs.declared.handle.H.{H}
 use Rattle.bdd_core.specs.declared.handle.Spent.{Spent}
-use Rattle.bdd_ops.proofs.CountingLaws.{counted_more, counted_none, counted_then, counts_more, counts_ok, counts_then}
+use Rattle.bdd_ops.proofs.CountingLaws.{counted_more, counted_none, counted_then, counts_more, counts_then}
 use Rattle.bdd_ops.specs.Counting.{Counts, IsCounted}
 use Rattle.step_roots.proofs.CareCounts.{counts_later}
 use Rattle.step_roots.specs.Bits.{compares}
@@ -114,14 +114,3 @@ behind_refused lesser variables bits left rest first now new e before counts =
     let here = counts_later first now first.words before.adds 2 new (Err e) counts in
     counts_more first.vars (2 * (length variables - (left + 1)) + 2) (2 * length variables) first new (Err e) (omega (arith, fits))
     (counts_then first.vars (2 * (length variables - (left + 1))) 2 first now new (Err e) before.counted here)
-
-pub all_behind : (lesser : Bool) (variables : List ℕ) (bits : List Bool) (rest : H) (first now : Diagrams) → IsBehind lesser variables bits 0 rest first now
-    → Gives first now (compares lesser variables bits) (Ok rest) × Counts first.vars (2 * length variables) first now (Ok rest)
-all_behind lesser variables bits rest first now is = (
-  record { adds = is.adds; ok = record { live = is.live; same = is.is }; spent = tt },
-  counts_ok first.vars (2 * length variables) first now rest (counted_more first.vars (2 * (length variables - 0)) (2 * length variables) first now (omega arith) is.counted),
-)
-
-pub refused_behind : (lesser : Bool) (variables : List ℕ) (bits : List Bool) (left : ℕ) (rest : H) (first now new : Diagrams) (f : Function) (e : Spent) → IsBehind lesser variables bits left rest first now → Gives now new f (Err e)
-    → Gives first new (compares lesser variables bits) (Err e)
-refused_behind lesser variables bits left rest first now new f e before gives = record { adds = nodes_then first now new before.adds gives.adds; ok = tt; spent = gives.spent }

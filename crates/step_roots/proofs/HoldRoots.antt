@@ -1,12 +1,12 @@
 -- Holds at plain nets that take their bits.
-use Rattle.std.proofs.Common.{◌≡◌, ℕ, ◌+◌, ◌<◌, ◌⊎◌, true, List, ap, arith, refl, subst, sym, ◌∙◌, inl, inr}
+use Rattle.std.proofs.Common.{◌≡◌, ℕ, ◌+◌, ◌<◌, ◌⊎◌, true, List, ap, arith, subst, sym, ◌∙◌, inl, inr}
 use Rattle.std.proofs.lemmas.Bool.{cases_eq}
 use Rattle.std.proofs.lemmas.Option.{same_Some}
 use Rattle.node_pool.specs.declared.region.Span.{Span}
 use Rattle.bdd_core.proofs.Frames.{word_beside}
 use Rattle.bdd_core.specs.Store.{Diagrams}
 use Rattle.bdd_core.specs.Words.{IsApart, Writes, word_at}
-use Rattle.known_nets.proofs.NetKinds.{is_plain_is, plain_is}
+use Rattle.known_nets.proofs.NetKinds.{is_plain_is}
 use Rattle.known_nets.specs.Conduction.{is_plain_at}
 use Rattle.step_roots.specs.Roots.{IsPlainHold}
 use Rattle.vrt_model.specs.Lists.{At}
@@ -21,9 +21,6 @@ IsEarlyHold c holds upto n = (at : ℕ) × (hold : Hold) × (at < upto) × At ho
 pub record AreTaken (c : Circuit) (holds : List Hold) (gates roots : Span) (upto : ℕ) (start d : Diagrams) : Type 0 where
   pub taken : (n : ℕ) → IsEarlyHold c holds upto n → word_at d roots n ≡ word_at start gates n
   pub others : (n : ℕ) → ¬ IsEarlyHold c holds upto n → word_at d roots n ≡ word_at start roots n
-
-pub none_taken : (c : Circuit) (holds : List Hold) (gates roots : Span) (d : Diagrams) → AreTaken c holds gates roots 0 d d
-none_taken c holds gates roots d = record { taken = λ n early. absurd (let lt = early.2 in omega (arith, lt)); others = λ n never. refl }
 
 module _ (c : Circuit) (holds : List Hold) (gates roots : Span) (i : ℕ) (hold : Hold) (start old new : Diagrams) (there : At holds i hold) (apart : IsApart gates roots)
     (sofar : Writes roots start old) (within : hold.net.0 < gates.len)
@@ -64,6 +61,3 @@ module _ (c : Circuit) (holds : List Hold) (gates roots : Span) (i : ℕ) (hold 
 module _ (c : Circuit) (gates roots : Span) (upto : ℕ) (start d : Diagrams) (are : AreTaken c c.holds gates roots upto start d) (all : (at : ℕ) (hold : Hold) → At c.holds at hold → at < upto) where
   pub all_taken : (n : ℕ) → IsPlainHold c n → word_at d roots n ≡ word_at start gates n
   all_taken n is = are.taken n (is.0, is.1, all is.0 is.1 is.2, is.2, is.3, is_plain_is c n is.4)
-
-  pub no_other : (n : ℕ) → ¬ IsPlainHold c n → word_at d roots n ≡ word_at start roots n
-  no_other n never = are.others n (λ early. never (early.0, early.1, early.3, early.4, plain_is c n early.5))

@@ -3,12 +3,12 @@ use Rattle.std.proofs.Common.{◌≡◌, ℕ, suc, ◌+◌, ◌-◌, ◌*◌, �
 use Rattle.std.proofs.Math.Path.{fun_ext}
 use Rattle.std.proofs.lemmas.Bool.{cases_eq, eq-eqb, eqb-true, false≢true, or_cases, or_left, or_right}
 use Rattle.bdd_core.proofs.Canonical.{with_bit_here, with_bit_other}
-use Rattle.bdd_core.proofs.Frames.{adds_none, gives_made, gives_next, nodes_then}
-use Rattle.bdd_core.specs.Diagram.{Function, IsReduced, Valuation, fixed, with_bit}
+use Rattle.bdd_core.proofs.Frames.{gives_made, gives_next, nodes_then}
+use Rattle.bdd_core.specs.Diagram.{Function, Valuation, fixed, with_bit}
 use Rattle.bdd_core.specs.Store.{AddsNodes, Diagrams, Gives, IsLive, Makes, function_of}
 use Rattle.bdd_core.specs.declared.handle.H.{H}
 use Rattle.bdd_core.specs.declared.handle.Spent.{Spent}
-use Rattle.bdd_ops.proofs.CountingLaws.{counted_more, counted_none, counted_then, counts_more, counts_ok, counts_then}
+use Rattle.bdd_ops.proofs.CountingLaws.{counted_more, counted_then, counts_more, counts_then}
 use Rattle.bdd_ops.specs.Counting.{Counts, IsCounted}
 use Rattle.bdd_ops.specs.Ops.{or_of}
 use Rattle.step_roots.proofs.CareCounts.{counts_later}
@@ -36,15 +36,6 @@ module _ (variables : List ℕ) (bit : Bool) (f : H) (first : Diagrams) where
     pub is : moved_of left bit (function_of now reached) ≡ moved_of variables bit (function_of first f)
     pub counted : IsCounted first.vars (2 * (length variables - length left)) first now
 
-  pub moving_none : IsReduced first.vars first.nodes → length first.nodes ≤ first.budget → IsLive first f → IsMoving variables f first
-  moving_none sound budget live = record {
-    few = omega arith;
-    adds = adds_none first sound budget;
-    live = live;
-    is = refl;
-    counted = counted_more first.vars 0 (2 * (length variables - length variables)) first first (omega arith) (counted_none first.vars first);
-  }
-
   pub moving_more : (x : ℕ) (behind : List ℕ) (reached next : H) (now new : Diagrams) → IsMoving (x ∷ behind) reached now → Gives now new (moved_by x bit (function_of now reached)) (Ok next)
       → Counts now.vars 2 now new (Ok next) → IsMoving behind next new
   moving_more x behind reached next now new moving gives counts = record {
@@ -68,23 +59,7 @@ module _ (variables : List ℕ) (bit : Bool) (f : H) (first : Diagrams) where
       counts_more first.vars (2 * (length variables - length left) + 2) (2 * length variables) first new (Err e) (omega (arith, few, same))
       (counts_then first.vars (2 * (length variables - length left)) 2 first now new (Err e) moving.counted later)
 
-  pub refused_moving : (left : List ℕ) (reached : H) (now new : Diagrams) (g h : Function) (e : Spent) → IsMoving left reached now → Gives now new g (Err e) → Gives first new h (Err e)
-  refused_moving left reached now new g h e moving gives = record { adds = nodes_then first now new moving.adds gives.adds; ok = tt; spent = gives.spent }
-
-  pub all_moved : (left : List ℕ) (reached : H) (now : Diagrams) → length left ≡ 0 → IsMoving left reached now
-      → Gives first now (moved_of variables bit (function_of first f)) (Ok reached) × Counts first.vars (2 * length variables) first now (Ok reached)
-  all_moved [] reached now none moving = (
-    record { adds = moving.adds; ok = record { live = moving.live; same = λ v. ap (λ (g : Function). g v) moving.is }; spent = tt },
-    counts_ok first.vars (2 * length variables) first now reached (counted_more first.vars (2 * (length variables - 0)) (2 * length variables) first now (omega arith) moving.counted),
-  )
-  all_moved (x ∷ behind) reached now none moving = absurd (omega (arith, none))
-
 -- ---- from which valuations some are reached
-
--- what is 1 is so after more variables are moved
-moved_more : (xs : List ℕ) (bit : Bool) (f : Function) (v : Valuation) → f v ≡ true → moved_of xs bit f v ≡ true
-moved_more [] bit f v e = e
-moved_more (x ∷ xs) bit f v e = moved_more xs bit (moved_by x bit f) v (or_left (f v) (fixed f x bit v) e)
 
 -- a valuation with its own bit at a variable is itself
 same_bit : (v : Valuation) (x : ℕ) (bit : Bool) → v x ≡ bit → with_bit v x bit ≡ v

@@ -7,10 +7,6 @@ use Rattle.text_lines.specs.Bytes.{is_blank, kept, lowered, words_of}
 blank_kept : (b : ℕ) → is_blank (to_ascii_lowercase b) ≡ is_blank b
 blank_kept b = grind arith
 
-kept_lowered : (word : List ℕ) → kept (lowered word) ≡ map lowered (kept word)
-kept_lowered [] = refl
-kept_lowered (b ∷ bs) = refl
-
 onto_lowered : (b : ℕ) (parts : List (List ℕ)) → onto_first (to_ascii_lowercase b) (map lowered parts) ≡ map lowered (onto_first b parts)
 onto_lowered b [] = refl
 onto_lowered b (x ∷ xs) = refl

@@ -105,10 +105,6 @@ escaped_sign name = if is_text name then Of (Name name) else NotText
 
 -- ---- signs
 
-abbrev pub first_or : ℕ → List ℕ → ℕ
-first_or d [] = d
-first_or d (b ∷ bs) = b
-
 -- `~^`, `~&`, `~|`, `^~`, `&&` and `||`
 abbrev pub is_double : ℕ → ℕ → Bool
 is_double b c =
