@@ -26,9 +26,13 @@ IsBelow mark region = (mark.nodes ≤ length region.nodes) × (mark.words ≤ le
 unfoldable pub no_node : Node
 no_node = record { var = 0; lo = 0; hi = 0 }
 
+-- the sum of the three numbers of a node
+unfoldable pub sum_of : Node → ℕ
+sum_of node = ((node.lo + node.hi) % 2 ^ 32 + node.var) % 2 ^ 32
+
 -- the three numbers of a node, mixed
 unfoldable pub mixed : Node → ℕ
-mixed node = ((node.lo + node.hi * 12582917 % 2 ^ 32) % 2 ^ 32 + node.var * 4256249 % 2 ^ 32) % 2 ^ 32
+mixed node = ((sum_of node * 12582917 % 2 ^ 32 + node.lo) % 2 ^ 32 + node.hi * 3 % 2 ^ 32) % 2 ^ 32
 
 -- the chain of a node, where there are mask + 1 of them
 unfoldable pub chain_of : ℕ → Node → ℕ

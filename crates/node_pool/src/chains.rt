@@ -19,17 +19,19 @@ pub struct Linked {
 /// How many heads a pool begins with. Their number is this times a power of 4.
 pub const FEWEST: u32 = 1024;
 
-/// The chain that a node is on, of `mask` and one more. A branch that is one place later is on the next chain: nodes
-/// that are made one after another then have heads near each other, which caches serve well. The multipliers are the
-/// first two primes of the package CUDD.
+/// The chain that a node is on, of `mask` and one more. A function with a row of variables is made from its last variable on:
+/// one branch of each node is the node made just before, and its variable the one before, while the other branch is the same for
+/// all. The sum of the three stays the same then, so the nodes of a row have heads near each other, which caches serve well.
+/// Nodes with the same sum still differ in what is added to it. The multiplier is a prime of the package CUDD.
 pub fn chain_at(mask: u32, node: Node) -> u32
     ensures place { result ≡ chain_of mask node }
     ensures within { result ≤ mask }
 {
-    let mixed = node
-        .lo
-        .wrapping_add(node.hi.wrapping_mul(12_582_917))
-        .wrapping_add(node.var.wrapping_mul(4_256_249));
+    let sum = node.lo.wrapping_add(node.hi).wrapping_add(node.var);
+    let mixed = sum
+        .wrapping_mul(12_582_917)
+        .wrapping_add(node.lo)
+        .wrapping_add(node.hi.wrapping_mul(3));
     mixed & mask
 }
 
