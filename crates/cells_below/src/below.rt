@@ -4,7 +4,8 @@ ghost use Rattle.std.specs.Prelude.{◌≡◌, ◌<◌, length, filter, IfOk};
 ghost use Rattle.cells_below.specs.Below.{AreBelow, AreNumbered};
 ghost use Rattle.cells_below.specs.Met.{keeps};
 
-use crate::marks::{is_marked, marks_below};
+use crate::marks::marks_below;
+use nesting::is_marked;
 use rule_index::RuleIndex;
 use std::alloc::Global;
 use vrt_model::{Design, NoMemory, Seq};

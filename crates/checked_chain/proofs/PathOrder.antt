@@ -1,22 +1,21 @@
 -- A place stands before those inside it: paths as lists of names, and the places of an unrolled cell in their order.
-use Rattle.std.proofs.Common.{◌≡◌, ℕ, zero, suc, ◌+◌, ◌-◌, ◌<◌, ◌≤◌, ◌++◌, Bool, true, List, [], ◌∷◌, length, map, drop, Some, arith, sym, refl, ◌∙◌, ap, ap₂, inl, inr, append_assoc, length-append}
-use Rattle.std.specs.Prelude.{bytes_eq, flat_map, nat_lt, slice_get, unwrap_or, Option, None}
+use Rattle.std.proofs.Common.{◌≡◌, ℕ, zero, suc, ◌+◌, ◌-◌, ◌<◌, ◌≤◌, ◌++◌, true, List, [], ◌∷◌, length, map, drop, arith, sym, refl, ◌∙◌, ap, ap₂, inl, inr, length-append}
+use Rattle.std.specs.Prelude.{bytes_eq, flat_map, nat_lt}
 use Rattle.std.proofs.lemmas.Bool.{and_from, and_parts, false≢true}
 use Rattle.std.proofs.lemmas.Bool.Decides.{nat_tests}
 use Rattle.std.proofs.lemmas.List.{drop-append-le}
 use Rattle.std.proofs.lemmas.Option.{same_Some, slice_get_within}
 use Rattle.std.proofs.lemmas.Slice.Eq.{bytes_eq-Decides}
-use Rattle.vrt_model.proofs.Lists.{at_back, at_either, map_at}
-use Rattle.vrt_model.proofs.Members.{all_among, at_none}
+use Rattle.place_paths.proofs.PathLaws.{cards_apart, path_on, path_over}
+use Rattle.place_paths.specs.Paths.{same_card, step_at}
+use Rattle.vrt_model.proofs.Lists.{at_either}
+use Rattle.vrt_model.proofs.Members.{at_none}
 use Rattle.vrt_model.specs.Comparison.{cell_at}
 use Rattle.vrt_model.specs.Cut.{is_inside}
 use Rattle.vrt_model.specs.FlatCircuit.{same_path}
-use Rattle.vrt_model.specs.Inputs.{AllApart, IsCell, IsDesign}
+use Rattle.vrt_model.specs.Inputs.{AllApart, IsDesign}
 use Rattle.vrt_model.specs.Lists.{At, Among}
 use Rattle.vrt_model.specs.Unrolled.{Place, Step, Top, all_places, cell_named, deepest, instances_from, net_at, own_count, own_nets, places_in, top_place}
-use Rattle.vrt_model.specs.declared.design.Cell.{Cell}
-use Rattle.vrt_model.specs.declared.design.Design.{Design}
-use Rattle.vrt_model.specs.declared.design.DeviceCard.{DeviceCard}
 use Rattle.vrt_model.specs.declared.design.InstanceCard.{InstanceCard}
 
 -- ---- paths as names
@@ -55,6 +54,10 @@ same_from_names (x ∷ xs) (y ∷ ys) e =
 names_long : (xs : List Step) → length (path_names xs) ≡ length xs
 names_long [] = refl
 names_long (x ∷ xs) = ap suc (names_long xs)
+
+names_joined : (xs ys : List Step) → path_names (xs ++ ys) ≡ path_names xs ++ path_names ys
+names_joined [] ys = refl
+names_joined (x ∷ xs) ys = ap (λ (ns : Names). x.instance ∷ ns) (names_joined xs ys)
 
 names_dropped : (k : ℕ) (xs : List Step) → path_names (drop k xs) ≡ drop k (path_names xs)
 names_dropped zero xs = refl
@@ -142,26 +145,6 @@ one_name xs ys a b rest inner outer p q h =
     few : (i o x y r : ℕ) → i ≡ x + suc r → o ≡ y + suc r → i - o ≤ x
     few i o x y r e f = omega (arith, e, f)
 
--- ---- the instances of a cell have different names
-
-abbrev same_card : InstanceCard → InstanceCard → Bool
-same_card a b = bytes_eq a.name b.name
-
-cell_apart : (c : Cell) → IsCell c → AllApart same_card c.instances
-cell_apart c is i j x y here there alike =
-    let devices : Names = map (λ (d : DeviceCard). d.name) c.devices in
-    let instances : Names = map (λ (k : InstanceCard). k.name) c.instances in
-    let e = is.elements (length devices + i) (length devices + j) x.name y.name (at_back devices instances i x.name (map_at (λ (k : InstanceCard). k.name) c.instances i x here))
-    (at_back devices instances j y.name (map_at (λ (k : InstanceCard). k.name) c.instances j y there)) alike in
-    omega (arith, e)
-
-cards_apart : (design : Design) → IsDesign design → (k : ℕ) → AllApart same_card (cell_at design k).instances
-cards_apart design is k = by_cell (slice_get design.cells k) refl
-  where
-    by_cell : (o : Option Cell) → slice_get design.cells k ≡ o → AllApart same_card (unwrap_or o (record { line = 0; name = []; ports = []; devices = []; instances = [] })).instances
-    by_cell None e = λ i j x y here there alike. absurd (at_none i x here)
-    by_cell (Some c) e = cell_apart c (all_among IsCell design.cells c is.cells (k, e))
-
 -- ---- places in their order
 
 module _ (t : Top) where
@@ -182,23 +165,15 @@ module _ (t : Top) where
   abbrev IsInCard : Place → List InstanceCard → Place → Type 0
   IsInCard at cards inner = (k : ℕ) × (card : InstanceCard) × At cards k card × IsThrough (card.name ∷ names_at at) inner
 
-  module _ (depth : ℕ) (through : (at inner : Place) → Among (places_in t depth at) inner → IsThrough (names_at at) inner) where
-    in_card : (at : Place) (base : ℕ) (cards : List InstanceCard) (inner : Place) (i : ℕ) → At (flat_map (places_in t depth) (instances_from t at depth base cards)) i inner → IsInCard at cards inner
-    in_card at base [] inner i e = absurd (at_none i inner e)
-    in_card at base (card ∷ cards) inner i e =
-        let next : ℕ = base + own_count t.design t.rules depth (cell_at t.design (cell_named t.design card.cell)) in
-        elim (at_either (places_in t depth (card_place at base card)) (flat_map (places_in t depth) (instances_from t at depth next cards)) i inner e) [
-          | inl here ↦ (0, card, refl, through (card_place at base card) inner (i, here))
-          | inr behind ↦ let rest = in_card at next cards inner behind.0 behind.2 in (suc rest.0, rest.1, rest.2, rest.3)
-        ]
-
   through : (depth : ℕ) (at inner : Place) → Among (places_in t depth at) inner → IsThrough (names_at at) inner
-  through zero at inner (zero, e) = ([], ap (λ (p : Place). names_at p) (sym (same_Some at inner e)))
-  through zero at inner (suc i, e) = absurd (at_none i inner e)
-  through (suc depth) at inner (zero, e) = ([], ap (λ (p : Place). names_at p) (sym (same_Some at inner e)))
-  through (suc depth) at inner (suc i, e) =
-      let h = in_card depth (λ a b m. through depth a b m) at (at.base + length (own_nets t.design t.rules (cell_at t.design at.cell))) (cell_at t.design at.cell).instances inner i e in
-      (h.3.0 ++ h.1.name ∷ [], h.3.1 ∙ sym (append_assoc h.3.0 (h.1.name ∷ []) (names_at at)))
+  through depth at inner m =
+      let on = path_on t depth at inner m in
+      (path_names on.0, ap path_names on.1 ∙ names_joined on.0 at.path)
+
+  in_card : (depth : ℕ) (at : Place) (base : ℕ) (cards : List InstanceCard) (inner : Place) (i : ℕ) → At (flat_map (places_in t depth) (instances_from t at depth base cards)) i inner → IsInCard at cards inner
+  in_card depth at base cards inner i e =
+      let over = path_over t depth at base cards inner (i, e) in
+      (over.1.0, over.0, over.1.1, (path_names over.2, ap path_names over.3 ∙ names_joined over.2 (step_at t at over.0 ∷ at.path)))
 
   -- in a list of places none stands before one with which its path ends
   abbrev IsOrderedBy : List Place → Type 0
@@ -213,7 +188,7 @@ module _ (t : Top) where
           | inl hy ↦ each (card_place at base card) i j x y hx hy ends
           | inr hy ↦ absurd (
               let p = through depth (card_place at base card) x (i, hx) in
-              let q = in_card depth (through depth) at next cards y hy.0 hy.2 in
+              let q = in_card depth at next cards y hy.0 hy.2 in
               let name = one_name p.0 q.3.0 card.name q.1.name (names_at at) (names_at x) (names_at y) p.1 q.3.1 ends in
               let e = apart 0 (suc q.0) card q.1 refl q.2 ((bytes_eq-Decides card.name q.1.name).1 name) in
               omega (arith, e))
@@ -246,7 +221,7 @@ module _ (t : Top) where
     ordered (suc depth) at (suc i) zero x y here there ends = omega arith
     ordered (suc depth) at zero (suc j) x y here there ends =
         absurd (
-        let q = in_card depth (through depth) at (at.base + length (own_nets t.design t.rules (cell_at t.design at.cell))) (cell_at t.design at.cell).instances y j there in
+        let q = in_card depth at (at.base + length (own_nets t.design t.rules (cell_at t.design at.cell))) (cell_at t.design at.cell).instances y j there in
         let same = ap (λ (p : Place). length (names_at p)) (same_Some at x here) in
         let long = ap (λ (ns : Names). length ns) q.3.1 in
         let sum = length-append q.3.0 (q.1.name ∷ names_at at) in

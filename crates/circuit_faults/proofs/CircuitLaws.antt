@@ -298,7 +298,7 @@ module _ (w : InPhase) (care : H) (roots gates : Span)
       where
         shown : (v : Valuation) → function_of first care v ≡ true → (n : ℕ) → IsInside part n → observed n ≡ true → IsResponse (alone v) n (Shows (shows new gates n v))
         shown v met n i o =
-            shows_bit (alone v) n (shows new gates n v) (p.bits n v i)
+            shows_bit (alone v) n (shows new gates n v) (p.bits n v i o)
             (reaches_or_not (alone v) (length c.nets) (source_level c) (is_finite c part whole.is wholes.ranges gates roots (circuit_words c gates) now v) n false)
             (λ f. p.clear n Fight v i (kept_care v ∙ met) f)
             (λ f. p.clear n Float v i (kept_care v ∙ met) (o, f))

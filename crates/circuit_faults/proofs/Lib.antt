@@ -22,10 +22,12 @@ pub mod PartNetworks
 pub mod PartStepLaws
 pub mod ScanLaws
 pub mod FlatWholes
+pub mod SmallFaults
 pub mod Solutions
 pub mod StepLaws
 pub mod StepLists
 pub mod StrongReached
+pub mod WayLaws
 pub mod WholeParts
 pub mod SoundWholes
 pub mod ThreeSpans
@@ -33,6 +35,7 @@ pub mod PinSteps
 pub mod FreeParts
 pub mod WiredWork
 pub mod OutputWords
+pub mod RoomLaws
 pub mod RootlessLaws
 pub mod UndrivenKept
 pub mod UndrivenLaws

@@ -1,24 +1,21 @@
 -- A part that was solved and looked through, by its network at each valuation.
-use Rattle.std.proofs.Common.{◌≡◌, ◌≢◌, ℕ, ◌<◌, ◌⊎◌, Bool, true, false, Option, Some, None, length, ap, refl, sym, subst, ◌∙◌, inl, inr}
+use Rattle.std.proofs.Common.{◌≡◌, ◌≢◌, ℕ, ◌<◌, ◌⊎◌, Bool, true, false, Option, Some, None, length, refl, sym, subst, ◌∙◌, inl, inr}
 use Rattle.std.specs.Prelude.{◌↔◌}
 use Rattle.std.proofs.lemmas.Bool.{cases_Bool, false≢true}
 use Rattle.node_pool.specs.declared.region.Span.{Span}
-use Rattle.bdd_core.specs.Diagram.{Function, Valuation, meaning}
+use Rattle.bdd_core.specs.Diagram.{Function, Valuation}
 use Rattle.bdd_core.specs.Store.{Diagrams, IsLive, function_of}
-use Rattle.bdd_core.specs.Words.{Writes, shows, word_at}
+use Rattle.bdd_core.specs.Words.{Writes}
 use Rattle.bdd_core.specs.declared.handle.H.{H}
 use Rattle.circuit_faults.proofs.NetLaws.{fight_says, float_says}
-use Rattle.circuit_faults.proofs.ScanLaws.{slot_word}
 use Rattle.circuit_faults.specs.Faults.{ShowsFault}
-use Rattle.circuit_faults.specs.Scans.{IsClearNet, IsFaultyNet, IsFoundIn, IsPartClear, IsPartFault, IsScannedTo, PartGives, ScanGives, fight_of, float_of, reached}
+use Rattle.circuit_faults.specs.Scans.{IsClearNet, IsFaultyNet, IsFoundIn, IsPartClear, IsPartFault, IsScannedTo, PartGives, Reach, ScanGives, TellsWhere, fight_of, float_of}
 use Rattle.circuit_faults.specs.declared.net.CircuitFault.{CircuitFault}
 use Rattle.channel_parts.specs.declared.part.Part.{Part}
 use Rattle.bdd_core.proofs.Frames.{word_beside}
-use Rattle.path_fixpoint.proofs.Places.{place_in, place_words}
+use Rattle.path_fixpoint.proofs.Places.{place_in}
 use Rattle.path_fixpoint.specs.Parts.{IsPlace}
-use Rattle.path_fixpoint.specs.Reaching.{slot_of}
-use Rattle.path_fixpoint.specs.Solved.{HasRootSpans, TellsReach, network_at}
-use Rattle.path_fixpoint.specs.Strengths.{word_of}
+use Rattle.path_fixpoint.specs.Solved.{HasRootSpans, network_at}
 use Rattle.vrt_model.specs.Path.{Network}
 use Rattle.vrt_model.specs.Response.{Fight as Fights, Float as Floats, IsResponse, Reaches}
 use Rattle.vrt_model.specs.declared.circuit.Circuit.{Circuit}
@@ -109,38 +106,35 @@ faulty_live care zero one seen Next h d f = absurd f
 faulty_live care zero one seen Apart h d f = absurd f
 faulty_live care zero one seen Enter h d f = absurd f
 
--- ---- a part: it was solved from `old` to `mid`, and looked through from `mid` to `new`
+-- ---- a part: it was solved from `old` to `mid`, and looked through from `mid` to `new`, by where the values reach its nets
 
-module _ (c : Circuit) (part : Part) (observed : ℕ → Bool) (care : H) (roots gates : Span) (out : NetWords) (old mid new : Diagrams) (spans : HasRootSpans c part gates roots out old)
-    (care_live : IsLive old care) (solved : Writes out.span old mid) (scanned : Writes gates mid new)
-    (tells : (v : Valuation) → TellsReach part out mid v (network_at old c part gates roots v)) where
+module _ (c : Circuit) (part : Part) (observed : ℕ → Bool) (care : H) (roots gates : Span) (out : NetWords) (reach : Reach) (old mid new : Diagrams) (spans : HasRootSpans c part gates roots out old)
+    (care_live : IsLive old care) (solved : Writes out.span old mid)
+    (tells : TellsWhere c part roots gates reach old) where
   abbrev pub net_alone : Valuation → Network
   net_alone v = network_at old c part gates roots v
 
   care_same : (v : Valuation) → function_of mid care v ≡ function_of old care v
   care_same v = solved.adds.kept care.0 care_live v
 
-  pub part_clear : IsScannedTo part observed care gates out (length part.nets) mid new → IsPartClear c part observed care roots gates old new
+  pub part_clear : IsScannedTo part observed care gates reach (length part.nets) mid new → IsPartClear c part observed care roots gates old new
   part_clear s = record {
     clear = λ n kind v inside met.
-        clear_shows (function_of mid care) (reached mid out false inside.0) (reached mid out true inside.0) v (net_alone v) n
+        clear_shows (function_of mid care) (reach false inside.0) (reach true inside.0) v (net_alone v) n
         (tells v inside.0 n false inside.1) (tells v inside.0 n true inside.1) observed kind (s.clear inside.0 n (place_in part inside.0 n inside.1) inside.1) (care_same v ∙ met);
-    bits = λ n v inside.
+    bits = λ n v inside seen.
         let i = inside.0 in
-        let word : word_at new gates n ≡ word_at mid out.span (word_of out (slot_of out true) i) = s.bits i n (place_in part i n inside.1) inside.1 in
-        let fits = place_words out (length part.nets) i spans.spans.out_len (place_in part i n inside.1) in
-        let same : shows new gates n v ≡ reached mid out true i v =
-        ap (λ (k : ℕ). meaning new.nodes k v) word ∙ scanned.adds.kept (word_at mid out.span (word_of out (slot_of out true) i)) (solved.live (word_of out (slot_of out true) i) (slot_word out true i fits)) v in
+        let same = s.bits i n (place_in part i n inside.1) inside.1 seen v in
         (λ e. (tells v i n true inside.1).0 (sym same ∙ e), λ r. same ∙ (tells v i n true inside.1).1 r);
     others = λ k lt away.
         s.others k (λ i below p. away (i, p)) ∙ word_beside out.span gates old mid k solved spans.spans.apart lt;
   }
 
-  pub part_fault : (fault : CircuitFault) → IsFoundIn part observed care out fault mid new → IsPartFault c part observed care roots gates fault old new
+  pub part_fault : (fault : CircuitFault) → IsFoundIn part observed care reach fault mid new → IsPartFault c part observed care roots gates fault old new
   part_fault fault f =
       let care' = function_of mid care in
-      let zero = reached mid out false f.place in
-      let one = reached mid out true f.place in
+      let zero = reach false f.place in
+      let one = reach true f.place in
       let n = fault.place in
       let live = faulty_live care' zero one (observed n) fault.kind fault.at new f.is in
       record {
@@ -158,14 +152,14 @@ module _ (c : Circuit) (part : Part) (observed : ℕ → Bool) (care : H) (roots
       before : (i m : ℕ) (kind : FaultKind) (v : Valuation) → IsPlace part i m → (i < f.place) ⊎ ((i ≡ f.place) × (kind ≡ Fight) × (fault.kind ≡ Float))
           → function_of old care v ≡ true → ¬ ShowsFault observed (net_alone v) kind m
       before i m kind v p (inl lt) met shown =
-          clear_shows (function_of mid care) (reached mid out false i) (reached mid out true i) v (net_alone v) m
+          clear_shows (function_of mid care) (reach false i) (reach true i) v (net_alone v) m
           (tells v i m false p) (tells v i m true p) observed kind (f.before i m lt p) (care_same v ∙ met) shown
       before i m kind v p (inr last) met shown =
           let here : IsPlace part f.place m = subst (λ (x : ℕ). IsPlace part x m) last.0 p in
-          no_fight_shows (function_of mid care) (reached mid out false f.place) (reached mid out true f.place) v (net_alone v) m
+          no_fight_shows (function_of mid care) (reach false f.place) (reach true f.place) v (net_alone v) m
           (tells v f.place m false here) (tells v f.place m true here) observed (observed fault.place) fault.kind fault.at new f.is last.2 (care_same v ∙ met)
           (subst (λ (k : FaultKind). ShowsFault observed (net_alone v) k m) last.1 shown)
 
-  pub part_gives : (found : Option CircuitFault) → ScanGives part observed care gates out mid new found → PartGives c part observed care roots gates old new found
+  pub part_gives : (found : Option CircuitFault) → ScanGives part observed care gates reach mid new found → PartGives c part observed care roots gates old new found
   part_gives None s = part_clear s
   part_gives (Some fault) f = part_fault fault f

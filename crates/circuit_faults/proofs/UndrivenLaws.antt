@@ -110,7 +110,7 @@ module _ (c : Circuit) (part : Part) (net : Net) (is : IsUndriven c part net) wh
     pub undriven_clear : IsPartClear c part observed care roots gates old new
     undriven_clear = record {
       clear = λ n kind v inside met. no_fault n kind v inside;
-      bits = λ n v inside. (
+      bits = λ n v inside seen. (
         λ e. absurd (false≢true (sym (zero_shows gates old new in_gates span written n v inside) ∙ e)),
         λ r. absurd (none_reaches old gates roots v n true inside r),
       );

@@ -8,6 +8,7 @@ pub mod Operations
 pub mod Ordered
 pub mod Results
 pub mod Scans
+pub mod Small
 pub mod Steps
 pub mod Undriven
 pub mod Wholes

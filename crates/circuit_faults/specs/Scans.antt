@@ -9,7 +9,7 @@ use Rattle.channel_parts.specs.declared.part.Part.{Part}
 use Rattle.path_fixpoint.specs.Parts.{IsPlace}
 use Rattle.path_fixpoint.specs.Reaching.{slot_of}
 use Rattle.path_fixpoint.specs.Solved.{network_at}
-use Rattle.path_fixpoint.specs.Strengths.{strong, word_of}
+use Rattle.path_fixpoint.specs.Strengths.{strong}
 use Rattle.circuit_faults.specs.Faults.{ShowsFault}
 use Rattle.circuit_faults.specs.declared.net.CircuitFault.{CircuitFault}
 use Rattle.vrt_model.specs.Lists.{At}
@@ -72,34 +72,44 @@ NetGives care zero one seen net d (Some fault) = (fault.place ≡ net.0) × IsFa
 abbrev pub reached : Diagrams → NetWords → Bool → ℕ → Function
 reached d out value i = λ v. strong d out (slot_of out value) i v
 
-abbrev pub IsClearPlace : (ℕ → Bool) → H → NetWords → Diagrams → ℕ → ℕ → Type 0
-IsClearPlace observed care out d i n = IsClearNet (function_of d care) (reached d out false i) (reached d out true i) (observed n)
+-- where the values reach the nets of a part, by place
+abbrev pub Reach : Type 0
+Reach = Bool → ℕ → Function
 
--- no net before a place has a fault, and the handles of these nets say where 1 reaches them; those of other nets stay
-pub record IsScannedTo (part : Part) (observed : ℕ → Bool) (care : H) (gates : Span) (out : NetWords) (upto : ℕ) (old new : Diagrams) : Type 0 where
-  pub clear : (i n : ℕ) → i < upto → IsPlace part i n → IsClearPlace observed care out old i n
-  pub bits : (i n : ℕ) → i < upto → IsPlace part i n → word_at new gates n ≡ word_at old out.span (word_of out (slot_of out true) i)
+abbrev pub IsClearPlace : (ℕ → Bool) → H → Reach → Diagrams → ℕ → ℕ → Type 0
+IsClearPlace observed care reach d i n = IsClearNet (function_of d care) (reach false i) (reach true i) (observed n)
+
+-- no net before a place has a fault, and the handles of the observed ones among these nets say where 1 reaches them; those of nets beside
+-- stay
+pub record IsScannedTo (part : Part) (observed : ℕ → Bool) (care : H) (gates : Span) (reach : Reach) (upto : ℕ) (old new : Diagrams) : Type 0 where
+  pub clear : (i n : ℕ) → i < upto → IsPlace part i n → IsClearPlace observed care reach old i n
+  pub bits : (i n : ℕ) → i < upto → IsPlace part i n → observed n ≡ true → (v : Valuation) → shows new gates n v ≡ reach true i v
   pub others : (k : ℕ) → ((i : ℕ) → i < upto → IsPlace part i k → ⊥) → word_at new gates k ≡ word_at old gates k
 
 -- the first fault of the part
-pub record IsFoundIn (part : Part) (observed : ℕ → Bool) (care : H) (out : NetWords) (fault : CircuitFault) (old new : Diagrams) : Type 0 where
+pub record IsFoundIn (part : Part) (observed : ℕ → Bool) (care : H) (reach : Reach) (fault : CircuitFault) (old new : Diagrams) : Type 0 where
   pub place : ℕ
   pub stands : IsPlace part place fault.place
-  pub before : (i n : ℕ) → i < place → IsPlace part i n → IsClearPlace observed care out old i n
-  pub is : IsFaultyNet (function_of old care) (reached old out false place) (reached old out true place) (observed fault.place) fault.kind fault.at new
+  pub before : (i n : ℕ) → i < place → IsPlace part i n → IsClearPlace observed care reach old i n
+  pub is : IsFaultyNet (function_of old care) (reach false place) (reach true place) (observed fault.place) fault.kind fault.at new
 
-abbrev pub ScanGives : Part → (ℕ → Bool) → H → Span → NetWords → Diagrams → Diagrams → Option CircuitFault → Type 0
-ScanGives part observed care gates out old new None = IsScannedTo part observed care gates out (length part.nets) old new
-ScanGives part observed care gates out old new (Some fault) = IsFoundIn part observed care out fault old new
+abbrev pub ScanGives : Part → (ℕ → Bool) → H → Span → Reach → Diagrams → Diagrams → Option CircuitFault → Type 0
+ScanGives part observed care gates reach old new None = IsScannedTo part observed care gates reach (length part.nets) old new
+ScanGives part observed care gates reach old new (Some fault) = IsFoundIn part observed care reach fault old new
 
 -- ---- a part, by its network at each valuation
 
--- no net of the part has a fault in the care set; their handles say where 1 reaches them; those of other nets stay
+-- at each valuation these functions say which values reach the nets
+abbrev pub TellsWhere : Circuit → Part → Span → Span → Reach → Diagrams → Type 0
+TellsWhere c part roots gates reach d =
+    (v : Valuation) (i n : ℕ) (value : Bool) → IsPlace part i n → (reach value i v ≡ true) ↔ Reaches (network_at d c part gates roots v) n value
+
+-- no net of the part has a fault in the care set; the handles of the observed ones say where 1 reaches them; those of other nets stay
 pub record IsPartClear (c : Circuit) (part : Part) (observed : ℕ → Bool) (care : H) (roots gates : Span) (old new : Diagrams) : Type 0 where
   pub clear :
       (n : ℕ) (kind : FaultKind) (v : Valuation) → IsInside part n → function_of old care v ≡ true
       → ¬ ShowsFault observed (network_at old c part gates roots v) kind n
-  pub bits : (n : ℕ) (v : Valuation) → IsInside part n → (shows new gates n v ≡ true) ↔ Reaches (network_at old c part gates roots v) n true
+  pub bits : (n : ℕ) (v : Valuation) → IsInside part n → observed n ≡ true → (shows new gates n v ≡ true) ↔ Reaches (network_at old c part gates roots v) n true
   pub others : (k : ℕ) → k < gates.len → (¬ IsInside part k) → word_at new gates k ≡ word_at old gates k
 
 -- The first fault of the part. The handle is live, not that of the constant 0, and says where in the care set the fault

@@ -16,6 +16,7 @@ mod part_lists;
 mod phased;
 mod ranking;
 mod scan;
+mod small;
 mod solve;
 mod spans;
 mod step_keys;

@@ -3,7 +3,7 @@ use Rattle.std.proofs.Common.{◌≡◌, ◌<◌, ◌≤◌, ◌+◌, ◌∷◌,
 use Rattle.std.specs.Prelude.{◌&&◌, drop, filter_map, find, slice_get, unwrap_or}
 use Rattle.std.proofs.lemmas.Bool.{cases_Bool}
 use Rattle.std.proofs.lemmas.Slice.Eq.{bytes_eq-Decides}
-use Rattle.flat_holds.proofs.ListLaws.{position_is}
+use Rattle.place_paths.proofs.CellNames.{position_is}
 use Rattle.flat_holds.proofs.PathLaws.{all_differ, first_path}
 use Rattle.flat_holds.specs.Ends.{AllLead, HasElement, IsHold, IsReached, end_from, enter_by, instance_by, inverted_from, is_line_of, is_match_of, line_above, line_from}
 use Rattle.flat_holds.specs.declared.elements.Element.{Element}

@@ -1,18 +1,19 @@
 -- The rule that counts on a flat net is that of the definition.
-use Rattle.std.proofs.Common.{◌≡◌, ◌<◌, ◌≤◌, ◌+◌, ◌-◌, ◌++◌, ◌∷◌, [], ℕ, suc, Bool, true, false, List, map, flat_map, filter, length, Option, Some, None, refl, ap, ap₂, sym, subst, ◌∙◌, arith, inl, inr}
+use Rattle.std.proofs.Common.{◌≡◌, ◌<◌, ◌≤◌, ◌+◌, ◌-◌, ◌++◌, ◌∷◌, [], ℕ, suc, Bool, true, false, List, map, flat_map, filter, length, Option, Some, None, refl, ap, ap₂, sym, subst, ◌∙◌, arith}
 use Rattle.std.specs.Prelude.{◌&&◌, ◌==◌, bytes_eq, cond, nat_lt, option_and_then, option_map, slice_get, unwrap_or}
 use Rattle.std.specs.List.{cons_option, enumerate_from, filter_map}
 use Rattle.std.specs.Option.{option_or}
-use Rattle.std.proofs.lemmas.Bool.{cases_Bool, false≢true}
+use Rattle.std.proofs.lemmas.Bool.{false≢true}
 use Rattle.std.proofs.lemmas.List.{length-map}
 use Rattle.std.proofs.lemmas.List.Elements.{filter_passes}
 use Rattle.std.proofs.lemmas.List.Quantifiers.{position-Some}
 use Rattle.std.proofs.lemmas.Option.{none-some, slice_get_within}
-use Rattle.std.proofs.lemmas.Slice.Eq.{bytes_eq-Decides}
-use Rattle.flat_holds.proofs.ListLaws.{made_kept, none_behind, position_is}
-use Rattle.flat_holds.proofs.RuleLaws.{found, least, least_append}
+use Rattle.flat_holds.proofs.ListLaws.{made_kept, none_behind}
+use Rattle.place_paths.proofs.CellNames.{cell_of_name}
+use Rattle.flat_holds.proofs.RuleLaws.{found, least}
 use Rattle.flat_holds.specs.Falls.{AreRoomy, HoldBy, best_at, best_from, closer_by, depth_of, holds_from, number_in, own_places, spot_by}
 use Rattle.flat_holds.specs.declared.falls.Spot.{Spot}
+use Rattle.line_laws.proofs.LineLaws.{earliest_joined}
 use Rattle.net_places.specs.Links.{Bare, IsUnrolled, bare, shown}
 use Rattle.net_places.specs.Whole.{whole_of}
 use Rattle.net_places.specs.declared.places.Place.{Place}
@@ -64,27 +65,6 @@ own_bound design rules cell name j is = by_test (supply_of rules name) (place_of
   by_test None None (Some i) h = cc
   by_test None None None h = by_place (place_of (own_nets design rules cell) name) refl h
 
--- ---- cells
-
--- the number of the cell of a name
-named_is : (design : Design) → IsDesign design → (k : ℕ) → k < length design.cells → (name : List ℕ) → bytes_eq name (cell_at design k).name ≡ true → cell_named design name ≡ k
-named_is design is k lt name same =
-    ap (λ (o : Option ℕ). unwrap_or o 0)
-    (position_is (λ (c : Cell). bytes_eq c.name name) design.cells k here.0 here.1 ((bytes_eq-Decides here.0.name name).1 (sym name_is))
-    (λ j y less there. elim (cases_Bool (bytes_eq y.name name)) [
-      | inl alike ↦ (
-          let e = is.names j k y here.0 there here.1 ((bytes_eq-Decides y.name here.0.name).1 ((bytes_eq-Decides y.name name).0 alike ∙ name_is)) in
-          absurd (omega (arith, e, less)))
-      | inr differs ↦ differs
-    ])) where
-      here : (c : Cell) × At design.cells k c
-      here = at_there design.cells k lt
-
-      name_is : name ≡ here.0.name
-      name_is =
-          (bytes_eq-Decides name (cell_at design k).name).0 same
-          ∙ ap (λ (o : Option Cell). (let c : Cell = unwrap_or o (record { line = 0; name = []; ports = []; devices = []; instances = [] }) in c).name) here.1
-
 module _ (design : Design) (rules : Rules) (unrolled : Unrolled) (cell : ℕ) where
   -- ---- the places of tables and of the definition
 
@@ -127,7 +107,7 @@ module _ (design : Design) (rules : Rules) (unrolled : Unrolled) (cell : ℕ) wh
       falls_same k p at here there rule m own =
           let same = same_at k p at here there in
           let alike : bytes_eq rule.cell (cell_at design at.cell).name ≡ true = sym (own_same k p at here there rule) ∙ own in
-          let number : cell_named design rule.cell ≡ at.cell = named_is design netlist at.cell (is.cells at (k, there)) rule.cell alike in
+          let number : cell_named design rule.cell ≡ at.cell = cell_of_name design netlist at.cell (is.cells at (k, there)) rule.cell alike in
           ap (λ (x : ℕ). x == n) (number_is p k at same there rule.net (subst (λ (c : ℕ). is_net_of (cell_at design c) rule.net ≡ true) number (names rule m)))
           ∙ sym (ap (λ (b : Bool). b && (net_at (whole_of design rules cell roles) at rule.net == n)) alike)
 
@@ -223,7 +203,7 @@ module _ (design : Design) (rules : Rules) (unrolled : Unrolled) (cell : ℕ) wh
           let first : k + 0 ≡ k = omega arith in
           let h = each 0 p at refl refl in
           subst (IsSame (closer_by depth_of (best_at design rules unrolled n k p (own_places design holds p)) (best_from design rules holds unrolled n (suc k) places)))
-          (sym (least_append deep (rules_at at rules.holds) (flat_map (λ (other : FlatPlace). rules_at other rules.holds) flat)))
+          (sym (earliest_joined deep (rules_at at rules.holds) (flat_map (λ (other : FlatPlace). rules_at other rules.holds) flat)))
           (closer_same (best_at design rules unrolled n k p (own_places design holds p)) (least deep (rules_at at rules.holds)) (best_from design rules holds unrolled n (suc k) places)
           (least deep (flat_map (λ (other : FlatPlace). rules_at other rules.holds) flat))
           (here_same k p at (subst (λ (m : ℕ). At unrolled.places m p) first h.0) (subst (λ (m : ℕ). At (all_places (whole_of design rules cell roles)) m at) first h.1))

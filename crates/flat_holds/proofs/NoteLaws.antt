@@ -1,8 +1,8 @@
 -- The rules that count on the nets, while they are noted.
-use Rattle.std.proofs.Common.{◌≡◌, ◌<◌, ◌+◌, ◌∷◌, [], ℕ, suc, List, Option, Some, None, drop, get_or, length, refl, ap, sym, ◌∙◌, arith}
-use Rattle.flat_holds.proofs.RuleLaws.{closer_assoc}
+use Rattle.std.proofs.Common.{◌≡◌, ◌<◌, ◌+◌, ◌∷◌, [], ℕ, suc, List, Option, None, drop, get_or, length, refl, ap, sym, ◌∙◌, arith}
 use Rattle.flat_holds.specs.Falls.{HasNoted, best_at, best_from, closer_by, depth_of, own_places, spot_at}
 use Rattle.flat_holds.specs.declared.falls.Spot.{Spot}
+use Rattle.line_laws.proofs.LineLaws.{earlier_alone, earlier_joined}
 use Rattle.net_places.specs.declared.places.Place.{Place}
 use Rattle.net_places.specs.declared.whole.Unrolled.{Unrolled}
 use Rattle.rule_index.specs.declared.by_cell.ByCell.{ByCell}
@@ -19,11 +19,6 @@ pub record IsNoting (all : ℕ → Option Spot) (old now : Spots) (left : ℕ �
   pub len : length now ≡ length old
   pub noted : (n : ℕ) → n < length old → closer_by depth_of (get_or now n None) (left n) ≡ closer_by depth_of (get_or old n None) (all n)
 
--- nothing more counts
-with_none : (o : Option Spot) → closer_by depth_of o None ≡ o
-with_none None = refl
-with_none (Some s) = refl
-
 -- ---- one after the other
 
 -- all is left
@@ -37,7 +32,7 @@ step all left more rest old now next e before one = record {
   len = one.len ∙ before.len;
   noted = λ n lt.
       ap (λ (o : Option Spot). closer_by depth_of o (rest n)) (one.noted n (let len = before.len in omega (arith, len, lt)))
-      ∙ closer_assoc depth_of (get_or now n None) (more n) (rest n)
+      ∙ earlier_joined depth_of (get_or now n None) (more n) (rest n)
       ∙ sym (ap (closer_by depth_of (get_or now n None)) (e n)) ∙ before.noted n lt;
 }
 
@@ -45,7 +40,7 @@ step all left more rest old now next e before one = record {
 pub done : (all left : ℕ → Option Spot) (old now : Spots) → ((n : ℕ) → left n ≡ None) → IsNoting all old now left → HasNoted all old now
 done all left old now e noting = record {
   len = noting.len;
-  noted = λ n lt. sym (with_none (get_or now n None)) ∙ sym (ap (closer_by depth_of (get_or now n None)) (e n)) ∙ noting.noted n lt;
+  noted = λ n lt. sym (earlier_alone depth_of (get_or now n None)) ∙ sym (ap (closer_by depth_of (get_or now n None)) (e n)) ∙ noting.noted n lt;
 }
 
 -- ---- the rules of a place

@@ -1,44 +1,18 @@
 -- Of several things the first of the least depth.
-use Rattle.std.proofs.Common.{◌≡◌, ◌<◌, ◌≤◌, ◌++◌, ◌∷◌, [], ℕ, zero, suc, Bool, true, false, not, cond, List, Option, Some, None, refl, ap, sym, subst, ◌∙◌, arith, inl, inr}
+use Rattle.std.proofs.Common.{◌≡◌, ◌<◌, ◌≤◌, ◌++◌, ◌∷◌, [], ℕ, zero, suc, Bool, true, false, not, cond, List, Option, Some, refl, ap, sym, subst, ◌∙◌, arith, inl, inr}
 use Rattle.std.specs.Prelude.{find, nat_lt}
 use Rattle.std.specs.List.{list_any}
-use Rattle.std.proofs.lemmas.Bool.{cases_Bool, le-ltb, lt-ltb, ltb-false, ltb-true}
+use Rattle.std.proofs.lemmas.Bool.{cases_Bool, lt-ltb, ltb-false, ltb-true}
 use Rattle.std.proofs.lemmas.Option.{same_Some}
 use Rattle.flat_holds.specs.Falls.{closer_by}
+use Rattle.line_laws.specs.Lines.{earliest}
 use Rattle.vrt_model.proofs.Members.{among_any, among_either, among_right, any_among, at_none}
 use Rattle.vrt_model.specs.Lists.{Among}
 
 module _ {X : Type 0} (d : X → ℕ) where
-  with_none : (t : Bool) (a b : X) → closer_by d (cond t (Some b) (Some a)) None ≡ cond t (Some b) (Some a)
-  with_none true a b = refl
-  with_none false a b = refl
-
-  pub closer_assoc : (a b c : Option X) → closer_by d (closer_by d a b) c ≡ closer_by d a (closer_by d b c)
-  closer_assoc None b c = refl
-  closer_assoc (Some a) None c = refl
-  closer_assoc (Some a) (Some b) None = with_none (nat_lt (d b) (d a)) a b
-  closer_assoc (Some a) (Some b) (Some c) = by_bits (nat_lt (d b) (d a)) (nat_lt (d c) (d b)) refl refl where
-    by_bits : (t u : Bool) → nat_lt (d b) (d a) ≡ t → nat_lt (d c) (d b) ≡ u
-        → closer_by d (cond t (Some b) (Some a)) (Some c) ≡ closer_by d (Some a) (cond u (Some c) (Some b))
-    by_bits true true e f =
-        let ba = ltb-true (d b) (d a) e in
-        let cb = ltb-true (d c) (d b) f in
-        ap (λ (x : Bool). cond x (Some c) (Some b)) f ∙ sym (ap (λ (x : Bool). cond x (Some c) (Some a)) (lt-ltb (d c) (d a) (omega (arith, ba, cb))))
-    by_bits true false e f = ap (λ (x : Bool). cond x (Some c) (Some b)) f ∙ sym (ap (λ (x : Bool). cond x (Some b) (Some a)) e)
-    by_bits false true e f = refl
-    by_bits false false e f =
-        let ab = ltb-false (d b) (d a) e in
-        let bc = ltb-false (d c) (d b) f in
-        ap (λ (x : Bool). cond x (Some c) (Some a)) (le-ltb (d c) (d a) (omega (arith, ab, bc))) ∙ sym (ap (λ (x : Bool). cond x (Some b) (Some a)) e)
-
   -- the first of the least depth
   abbrev pub least : List X → Option X
-  least [] = None
-  least (x ∷ xs) = closer_by d (Some x) (least xs)
-
-  pub least_append : (xs ys : List X) → least (xs ++ ys) ≡ closer_by d (least xs) (least ys)
-  least_append [] ys = refl
-  least_append (x ∷ xs) ys = ap (closer_by d (Some x)) (least_append xs ys) ∙ sym (closer_assoc (Some x) (least xs) (least ys))
+  least = earliest d
 
   -- those before it are deeper, and those behind it are not less deep
   record IsFirst (xs : List X) (b : X) : Type 0 where

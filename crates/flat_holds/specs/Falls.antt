@@ -1,8 +1,9 @@
 -- Which `hold` rule counts on a flat net, by the places of an unrolled cell.
-use Rattle.std.specs.Prelude.{◌≡◌, ℕ, zero, suc, ◌+◌, ◌<◌, ◌^◌, ◌==◌, nat_lt, cond, List, [], ◌∷◌, Option, Some, None, get_or, length, option_and_then, option_map, slice_get}
+use Rattle.std.specs.Prelude.{◌≡◌, ℕ, zero, suc, ◌+◌, ◌<◌, ◌^◌, ◌==◌, cond, List, [], ◌∷◌, Option, Some, None, get_or, length, option_and_then, option_map, slice_get}
 use Rattle.std.specs.List.{cons_option}
 use Rattle.flat_holds.specs.Ends.{IsHold}
 use Rattle.flat_holds.specs.declared.falls.Spot.{Spot}
+use Rattle.line_laws.specs.Lines.{earlier}
 use Rattle.net_places.specs.declared.places.Place.{Place}
 use Rattle.net_places.specs.declared.whole.Unrolled.{Unrolled}
 use Rattle.net_tables.specs.Nets.{net_in}
@@ -33,9 +34,7 @@ AreRoomy design rules tables places = (p : Place) → Among places p → IsRoomy
 
 -- of two the one that is less deep, else the first
 abbrev pub closer_by : {X : Type 0} → (X → ℕ) → Option X → Option X → Option X
-closer_by depth None other = other
-closer_by depth (Some a) None = Some a
-closer_by depth (Some a) (Some b) = cond (nat_lt (depth b) (depth a)) (Some b) (Some a)
+closer_by = earlier
 
 abbrev pub depth_of : Spot → ℕ
 depth_of s = s.depth

@@ -9,7 +9,7 @@ use Rattle.flat_sizes.proofs.Tallies.{Adding, IsDown, IsTally, Tally, card_added
 use Rattle.flat_sizes.specs.Totals.{Adds, AddsAll, AddsOne, AddsStands, AreInside, AreNumbered, CountAlike, DescendsFrom, IsDirectlyIn, below, inside, over, stood, within}
 use Rattle.flat_sizes.specs.declared.stands.Stand.{Stand}
 use Rattle.rule_index.specs.Firsts.{value_in}
-use Rattle.rule_index.specs.declared.firsts.FirstValues.{FirstValues}
+use Rattle.name_tables.specs.declared.firsts.FirstValues.{FirstValues}
 use Rattle.vrt_model.specs.Unsupported.{carried}
 use Rattle.vrt_model.specs.declared.design.Design.{Design}
 use Rattle.vrt_model.specs.declared.design.InstanceCard.{InstanceCard}

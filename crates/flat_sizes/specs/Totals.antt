@@ -6,7 +6,7 @@ use Rattle.flat_sizes.specs.declared.counts.Counted.TheVariants.{Nets, Devices, 
 use Rattle.flat_sizes.specs.declared.stands.Stand.{Stand}
 use Rattle.rule_index.specs.Firsts.{value_in}
 use Rattle.rule_index.specs.Tables.{cell_numbered}
-use Rattle.rule_index.specs.declared.firsts.FirstValues.{FirstValues}
+use Rattle.name_tables.specs.declared.firsts.FirstValues.{FirstValues}
 use Rattle.vrt_model.specs.Comparison.{cell_at}
 use Rattle.vrt_model.specs.Lists.{has_name}
 use Rattle.vrt_model.specs.Unrolled.{cell_named, deepest, is_global_in, mentions, names_global, own_nets}

@@ -8,7 +8,7 @@ use Rattle.flatten.proofs.CellNets.{IsLeaf, all_names, cell, global_names, is_pl
 use Rattle.rule_index.specs.Firsts.{value_in}
 use Rattle.flatten.specs.NetTables.{Supplies, names_table}
 use Rattle.rule_index.specs.Tables.{declared_supply, supply_in}
-use Rattle.rule_index.specs.declared.firsts.FirstValues.{FirstValues}
+use Rattle.name_tables.specs.declared.firsts.FirstValues.{FirstValues}
 use Rattle.vrt_model.specs.CellRules.{supply_of}
 use Rattle.vrt_model.specs.Comparison.{cell_at}
 use Rattle.vrt_model.specs.FlatCircuit.{flat_device, flat_devices, flat_instance, flat_instances, flat_nets, kind_by, own_flat_nets, plain_net, port_nets_of}

@@ -12,7 +12,7 @@ use Rattle.flatten.specs.Structures.{IsFault, IsStructured, IsTestFault, Structu
 use Rattle.rule_index.specs.Tables.{AreModels, declared_supply, kind_in, supply_in}
 use Rattle.flatten.specs.declared.faults.FlatFault.{FlatFault}
 use Rattle.flatten.specs.declared.faults.FlatFault.TheVariants.{DeviceModel, SupplyTie, Limit as LimitFault, NoMemory}
-use Rattle.rule_index.specs.declared.firsts.FirstValues.{FirstValues}
+use Rattle.name_tables.specs.declared.firsts.FirstValues.{FirstValues}
 use Rattle.rule_index.specs.declared.models.ModelTable.{ModelTable}
 use Rattle.vrt_model.specs.Comparison.{cell_at}
 use Rattle.vrt_model.specs.FlatCircuit.{flat_devices, flat_instances, kind_of}

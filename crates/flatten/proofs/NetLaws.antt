@@ -5,7 +5,7 @@ use Rattle.flatten.proofs.CellFlat.{supplies_are}
 use Rattle.flatten.specs.NetTables.{Supplies, port_nets_in}
 use Rattle.rule_index.specs.Firsts.{value_in}
 use Rattle.rule_index.specs.Tables.{declared_supply, supply_in}
-use Rattle.rule_index.specs.declared.firsts.FirstValues.{FirstValues}
+use Rattle.name_tables.specs.declared.firsts.FirstValues.{FirstValues}
 use Rattle.vrt_model.specs.CellRules.{supply_of}
 use Rattle.vrt_model.specs.FlatCircuit.{flat_nets, kind_by, own_flat_nets, plain_net, port_nets_of, supply_flat}
 use Rattle.vrt_model.specs.Unrolled.{Top, all_places, globals_of, top_cell}

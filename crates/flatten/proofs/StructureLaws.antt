@@ -16,7 +16,7 @@ use Rattle.rule_index.specs.Tables.{AreModels, declared_supply, supply_in}
 use Rattle.flatten.specs.Walks.{card_without_kind, has_no_kind, tie_from, top_spot}
 use Rattle.flatten.specs.declared.faults.FlatFault.{FlatFault}
 use Rattle.flatten.specs.declared.faults.FlatFault.TheVariants.{DeviceModel, SupplyTie, Limit as LimitFault, NoMemory}
-use Rattle.rule_index.specs.declared.firsts.FirstValues.{FirstValues}
+use Rattle.name_tables.specs.declared.firsts.FirstValues.{FirstValues}
 use Rattle.rule_index.specs.declared.models.ModelTable.{ModelTable}
 use Rattle.vrt_model.specs.FlatCircuit.{flat_devices, flat_instances, flat_nets, kind_of}
 use Rattle.vrt_model.specs.Comparison.{cell_at}

@@ -13,7 +13,7 @@ use Rattle.flatten.specs.NetTables.{Supplies}
 use Rattle.flat_devices.specs.DeviceTables.{first_some}
 use Rattle.flatten.specs.Walks.{AreNumbered, are_apart, card_without_kind, first_card, first_tie, has_no_kind, is_apart, own_tie, port_supply, spot_by, spot_in, supply_at, tie_from, tied_supply, top_spot}
 use Rattle.rule_index.specs.Firsts.{value_in}
-use Rattle.rule_index.specs.declared.firsts.FirstValues.{FirstValues}
+use Rattle.name_tables.specs.declared.firsts.FirstValues.{FirstValues}
 use Rattle.rule_index.specs.declared.models.ModelTable.{ModelTable}
 use Rattle.flatten.specs.declared.ties.Spot.{Spot}
 use Rattle.names.specs.Names.{with_names}

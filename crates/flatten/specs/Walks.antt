@@ -6,7 +6,7 @@ pub use Rattle.flat_sizes.specs.Totals.{AreNumbered}
 use Rattle.flatten.specs.NetTables.{Supplies}
 use Rattle.rule_index.specs.Firsts.{value_in}
 use Rattle.rule_index.specs.Tables.{kind_in}
-use Rattle.rule_index.specs.declared.firsts.FirstValues.{FirstValues}
+use Rattle.name_tables.specs.declared.firsts.FirstValues.{FirstValues}
 use Rattle.rule_index.specs.declared.models.ModelTable.{ModelTable}
 use Rattle.flatten.specs.declared.ties.Spot.{Spot}
 use Rattle.vrt_model.specs.Comparison.{cell_at}

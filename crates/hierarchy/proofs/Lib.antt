@@ -3,7 +3,6 @@ pub mod ChainLaws
 pub mod HeldLaws
 pub mod ListedLaws
 pub mod LookupLaws
-pub mod MissingLaws
 pub mod NestedLaws
 pub mod OrderLaws
 pub mod SetLaws

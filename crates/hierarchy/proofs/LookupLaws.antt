@@ -29,10 +29,10 @@ use Rattle.vrt_model.specs.declared.rules.Rules.{Rules}
 use Rattle.vrt_model.specs.declared.rules.StrengthRule.{StrengthRule}
 use Rattle.hierarchy.proofs.CardLaws.{by_name, number_is, place_is}
 use Rattle.hierarchy.proofs.HeldLaws.{held_in}
-use Rattle.hierarchy.proofs.MissingLaws.{first_is}
+use Rattle.line_laws.proofs.LineLaws.{first_is}
 use Rattle.names.proofs.PlaceLaws.{any_named, any_placed, placed_within}
 use Rattle.names.proofs.NameLaws.{once_has_same}
-use Rattle.hierarchy.specs.Names.{AreTables, earliest, is_in, missing_assumed, missing_by, missing_cell, missing_held, names_missing, port_asked, sets_of}
+use Rattle.hierarchy.specs.Names.{AreTables, earliest, is_in, line_of, missing_assumed, missing_by, missing_cell, missing_held, names_missing, port_asked, sets_of}
 use Rattle.hierarchy.specs.Sets.{names_in}
 use Rattle.hierarchy.specs.declared.lookups.Tables.{Tables}
 use Rattle.hierarchy.specs.declared.sets.Kind.{Kind}
@@ -178,7 +178,7 @@ module _ (design : Design) (rules : Rules) (tables : Tables) (are : AreTables de
       (same_found _ _ (λ (r : AssumeRule). assumed_line r.line r.cell r.expression) rules.assumes)
 
   pub names_found : (found : Option Missing) → found ≡ earliest (names_missing tables rules) → found ≡ missing_name design rules
-  names_found found e = e ∙ ap earliest names_are ∙ sym (first_is (missing_names design rules))
+  names_found found e = e ∙ ap earliest names_are ∙ sym (first_is line_of (missing_names design rules))
 
 -- ---- how they are filled
 

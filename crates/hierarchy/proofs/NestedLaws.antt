@@ -16,17 +16,11 @@ use Rattle.vrt_model.specs.Unrolled.{cell_named}
 use Rattle.vrt_model.specs.declared.design.Cell.{Cell}
 use Rattle.vrt_model.specs.declared.design.Design.{Design}
 use Rattle.vrt_model.specs.declared.design.InstanceCard.{InstanceCard}
-use Rattle.hierarchy.proofs.CardLaws.{by_name, place_is}
-use Rattle.names.proofs.PlaceLaws.{placed_within}
+use Rattle.hierarchy.proofs.CardLaws.{place_is}
+use Rattle.place_paths.proofs.CellNames.{inner_inside}
 use Rattle.hierarchy.specs.Nested.{AreInner, AreNested, IsNestingFault, numbers_in}
 use Rattle.hierarchy.specs.Tables.{AreNames}
 use Rattle.hierarchy.specs.declared.faults.HierFault.TheVariants.{Recursion, Depth, NoMemory}
-
-number_within : (design : Design) (name : List ℕ) → 0 < length design.cells → cell_named design name < length design.cells
-number_within design name some = by_place (position (by_name name) design.cells) refl where
-  by_place : (o : Option ℕ) → position (by_name name) design.cells ≡ o → unwrap_or (position (by_name name) design.cells) 0 < length design.cells
-  by_place None e = subst (λ (o : Option ℕ). unwrap_or o 0 < length design.cells) (sym e) some
-  by_place (Some n) e = subst (λ (o : Option ℕ). unwrap_or o 0 < length design.cells) (sym e) (placed_within (by_name name) design.cells n e)
 
 -- ---- which cells stand directly in one
 
@@ -53,11 +47,6 @@ in_list_is design all inner n = ap (λ (xs : List (List ℕ)). get_or xs n []) i
 pub count_is : (design : Design) (all : List (List ℕ)) → AreInner design all → length all ≡ length design.cells
 count_is design all inner = ap length inner ∙ length-map design.cells (λ (c : Cell). map (λ (i : InstanceCard). cell_named design i.cell) c.instances)
 
-numbered_card : (design : Design) (is : List InstanceCard) (i n : ℕ) → At (map (λ (i : InstanceCard). cell_named design i.cell) is) i n → (card : InstanceCard) × (n ≡ cell_named design card.cell)
-numbered_card design [] i n e = cc
-numbered_card design (card ∷ is) zero n e = let same : cell_named design card.cell ≡ n = cc in (card, sym same)
-numbered_card design (card ∷ is) (suc i) n e = numbered_card design is i n e
-
 none_among : (i n : ℕ) → At [] i n → ⊥
 none_among i n e = cc
 
@@ -65,9 +54,8 @@ pub inside_is : (design : Design) (all : List (List ℕ)) → AreInner design al
 inside_is design all inner m n among = elim (cases_lt 0 (length design.cells)) [
   | inl some ↦
       let here : Among (cells_in design m) n = subst (λ (xs : List ℕ). Among xs n) (in_list_is design all inner m) among in
-      let from = numbered_card design (cell_at design m).instances here.0 n here.1 in
-      let lt : cell_named design from.0.cell < length design.cells = number_within design from.0.cell some in
-      omega (arith, count_is design all inner, from.1, lt)
+      let lt : n < length design.cells = inner_inside design some m n here in
+      omega (arith, count_is design all inner, lt)
   | inr none ↦
       let nothing : in_list all m ≡ [] = get_or_past all m [] (omega (arith, count_is design all inner)) in
       let here : Among [] n = subst (λ (xs : List ℕ). Among xs n) nothing among in

@@ -1,5 +1,6 @@
 -- Names in the rules, looked up in tables.
-use Rattle.std.specs.Prelude.{◌≡◌, ℕ, List, [], ◌+◌, ◌∷◌, ◌++◌, Bool, false, ◌&&◌, cond, nat_lt, length, map, filter_map, bytes_eq, position, slice_get, unwrap_or, Option, Some, None, option_map}
+use Rattle.std.specs.Prelude.{◌≡◌, ℕ, List, [], ◌+◌, ◌∷◌, ◌++◌, Bool, false, ◌&&◌, length, map, filter_map, bytes_eq, position, slice_get, unwrap_or, Option, Some, None, option_map}
+use Rattle.line_laws.specs.Lines.{earlier as line_earlier, earliest as line_earliest}
 use Rattle.vrt_model.specs.Lists.{distinct, has_name}
 use Rattle.vrt_model.specs.Expressions.{names_in as expression_names}
 use Rattle.vrt_model.specs.Hierarchy.{Asked, Missing, asked, first_missing}
@@ -71,15 +72,15 @@ missing_assumed tables line cell e = first_missing line (asked cell (has_name ta
 
 -- ---- the first of all lines
 
+abbrev pub line_of : Missing → ℕ
+line_of m = m.line
+
 -- of two names that are not there that of the earlier line, of one line the first
 abbrev pub earlier : Option Missing → Option Missing → Option Missing
-earlier None other = other
-earlier (Some one) None = Some one
-earlier (Some one) (Some other) = cond (nat_lt other.line one.line) (Some other) (Some one)
+earlier = line_earlier line_of
 
 abbrev pub earliest : List Missing → Option Missing
-earliest [] = None
-earliest (m ∷ ms) = earlier (Some m) (earliest ms)
+earliest = line_earliest line_of
 
 -- the names that are not there, kind by kind of lines
 abbrev pub names_before : Tables → Rules → List Missing

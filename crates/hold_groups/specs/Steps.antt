@@ -1,7 +1,8 @@
 -- Groups and lines that grow one by one.
-use Rattle.std.specs.Prelude.{◌≡◌, ℕ, ◌<◌, cond, not, ◌&&◌, List, [], ◌∷◌, ◌++◌, find, filter_map, nat_lt, bytes_eq, Option, Some, None, option_map}
+use Rattle.std.specs.Prelude.{◌≡◌, ℕ, ◌<◌, cond, not, ◌&&◌, List, ◌++◌, find, filter_map, bytes_eq, Option, Some, None, option_map}
 use Rattle.std.specs.List.{enumerate_from}
 use Rattle.std.specs.Option.{option_or}
+use Rattle.line_laws.specs.Lines.{earlier as line_earlier, earliest as line_earliest}
 use Rattle.vrt_model.specs.Groups.{Placed}
 use Rattle.vrt_model.specs.Lists.{Among, has_name}
 use Rattle.vrt_model.specs.Unsupported.{Line, is_reached}
@@ -46,15 +47,15 @@ net_line elements cell r = line_by elements cell r.cell r.line r.latch
 abbrev pub instance_line : List (List ℕ) → List ℕ → InstanceMatchRule → Option Line
 instance_line elements cell r = line_by elements cell r.cell r.line r.latch
 
+abbrev pub number_of : Line → ℕ
+number_of l = l.line
+
 -- of two lines that of the lower number, and of one number the first
 abbrev pub earlier : Option Line → Option Line → Option Line
-earlier None other = other
-earlier (Some one) None = Some one
-earlier (Some one) (Some other) = cond (nat_lt other.line one.line) (Some other) (Some one)
+earlier = line_earlier number_of
 
 abbrev pub earliest : List Line → Option Line
-earliest [] = None
-earliest (line ∷ lines) = earlier (Some line) (earliest lines)
+earliest = line_earliest number_of
 
 -- the lines of a cell that name no element, of nets and then of instances
 abbrev pub lines_without : List (List ℕ) → Rules → List ℕ → List Line

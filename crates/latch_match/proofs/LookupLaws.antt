@@ -7,10 +7,10 @@ use Rattle.std.specs.Str.{str_to_ascii_lowercase}
 use mathlib.Core.Path.{fun_ext}
 use Rattle.names.proofs.FilterLaws.{first_is_found}
 use Rattle.rule_index.proofs.PlacedLaws.{any_placed, values_placed}
-use Rattle.rule_index.specs.Firsts.{value_in}
+use Rattle.name_tables.specs.Firsts.{value_in}
 use Rattle.rule_index.specs.Lines.{ArePortLines, places_in}
 use Rattle.rule_index.specs.Tables.{declared_supply}
-use Rattle.rule_index.specs.declared.firsts.FirstValues.{FirstValues}
+use Rattle.name_tables.specs.declared.firsts.FirstValues.{FirstValues}
 use Rattle.rule_index.specs.declared.lines.PortLines.{PortLines}
 use Rattle.vrt_model.specs.Lists.{has_name}
 use Rattle.vrt_model.specs.CellRules.{clock_of_port, supply_of}
@@ -25,10 +25,10 @@ use Rattle.vrt_model.specs.declared.rules.PortRule.{PortRule}
 use Rattle.vrt_model.specs.declared.rules.Rules.{Rules}
 use Rattle.latch_match.specs.Facts.{port_facts}
 use Rattle.latch_match.specs.Looked.{AreLookups, assumed_at, by_lower_name, by_name, clock_at, facts_in, ruled_at, signal_at, signal_ruled}
-use Rattle.latch_match.specs.Tables.{IsTable, Named, first_in, named}
+use Rattle.name_tables.specs.Tables.{IsTable, Named, first_value, named}
 use Rattle.latch_match.specs.declared.facts.PortFacts.{PortFacts}
 use Rattle.latch_match.specs.declared.lookups.Lookups.{Lookups}
-use Rattle.latch_match.specs.declared.table.Table.{Table}
+use Rattle.name_tables.specs.declared.table.NameTable.{NameTable}
 use Rattle.latch_match.proofs.TableLaws.{first_kept, first_rule, second_item}
 
 some_mapped : {X Y : Type 0} (f : X → Y) (o : Option X) → is_some (option_map f o) ≡ is_some o
@@ -36,7 +36,7 @@ some_mapped f None = refl
 some_mapped f (Some x) = refl
 
 -- a name finds the interface signal of that name
-pub signals_named : (flat : FlatModel) (signals : List ℕ) (names : Table ℕ) → signals ≡ interface flat → IsTable (map (by_name flat) signals) names → first_in names ≡ signal_at flat
+pub signals_named : (flat : FlatModel) (signals : List ℕ) (names : NameTable ℕ) → signals ≡ interface flat → IsTable (map (by_name flat) signals) names → first_value names ≡ signal_at flat
 signals_named flat signals names e is =
     fun_ext (λ name. first_kept (signal_name flat) signals names name is ∙ first_is_found (λ s. bytes_eq (signal_name flat s) name) signals ∙ ap (find (λ s. bytes_eq (signal_name flat s) name)) e)
 
@@ -54,7 +54,7 @@ same_facts s s' c c' r r' g g' f f' a a' p q t u v w = cc
 pub facts_are : (flat : FlatModel) (rules : Rules) (cell : List ℕ) (supplies : FirstValues Bool) (l : Lookups) (port : List ℕ) → value_in supplies port ≡ declared_supply rules.supplies port → AreLookups flat rules cell l
     → facts_in supplies l port ≡ port_facts flat rules cell port
 facts_are flat rules cell supplies l port given are =
-    let ruled : first_in l.ruled port ≡ option_map (λ (r : PortRule). signal_at flat r.signal) (port_rule rules cell port) =
+    let ruled : first_value l.ruled port ≡ option_map (λ (r : PortRule). signal_at flat r.signal) (port_rule rules cell port) =
     first_rule (λ (r : PortRule). bytes_eq r.cell cell) (λ (r : PortRule). r.port) (λ (r : PortRule). signal_at flat r.signal) rules.ports l.ruled port are.ruled in
     same_facts _ (supply_of rules port) _ (clock_of_port rules cell port) _ (is_some (port_rule rules cell port)) _ (signal_of_port flat rules cell port) _ _ _ (is_assumed rules cell port)
     (ap (λ (o : Option Bool). option_or o (cond (bytes_eq port (codes "0")) (Some false) None)) given)
@@ -68,7 +68,7 @@ facts_are flat rules cell supplies l port given are =
 pub lookups_are : (flat : FlatModel) (rules : Rules) (lines : PortLines) (cell : List ℕ) (signals clocked ruled assumed : List ℕ) (l : Lookups) → ArePortLines rules lines
     → signals ≡ interface flat → clocked ≡ places_in lines.clockports cell → ruled ≡ places_in lines.signals cell → assumed ≡ places_in lines.assumes cell
     → IsTable (map (by_lower_name flat) signals) l.signals → IsTable (map (by_name flat) signals) l.names → IsTable (filter_map (clock_at rules.clockports) clocked) l.clocks
-    → IsTable (filter_map (ruled_at (first_in l.names) rules.ports) ruled) l.ruled
+    → IsTable (filter_map (ruled_at (first_value l.names) rules.ports) ruled) l.ruled
     → ((m : List ℕ) → has_name l.assumed m ≡ list_any (assumed_at rules.assumes m) assumed) → AreLookups flat rules cell l
 lookups_are flat rules lines cell signals clocked ruled assumed l are e c p a by_low by_name_is by_clock by_rule by_assume = record {
   signals = subst (λ (xs : List ℕ). IsTable (map (by_lower_name flat) xs) l.signals) e by_low;
@@ -77,8 +77,8 @@ lookups_are flat rules lines cell signals clocked ruled assumed l are e c p a by
       (ap (filter_map (clock_at rules.clockports)) c ∙ values_placed (λ (r : ClockportRule). r.cell) (λ (r : ClockportRule). named r.port r.clock) rules.clockports (places_in lines.clockports cell) cell (are.clockports cell)) by_clock;
   ruled =
       subst (λ (es : List (Named (Option ℕ))). IsTable es l.ruled)
-      (ap (filter_map (ruled_at (first_in l.names) rules.ports)) p
-      ∙ values_placed (λ (r : PortRule). r.cell) (λ (r : PortRule). named r.port (first_in l.names r.signal)) rules.ports (places_in lines.signals cell) cell (are.signals cell)
+      (ap (filter_map (ruled_at (first_value l.names) rules.ports)) p
+      ∙ values_placed (λ (r : PortRule). r.cell) (λ (r : PortRule). named r.port (first_value l.names r.signal)) rules.ports (places_in lines.signals cell) cell (are.signals cell)
       ∙ ap (λ (f : List ℕ → Option ℕ). filter_map (signal_ruled f cell) rules.ports) (signals_named flat signals l.names e by_name_is)) by_rule;
   assumed = λ m.
       by_assume m ∙ ap (list_any (assumed_at rules.assumes m)) a

@@ -23,7 +23,7 @@ use Rattle.rule_index.specs.declared.index.RuleIndex.{RuleIndex}
 use Rattle.latch_match.specs.Facts.{all_facts, clock_carried, is_in_way, port_facts, role_from, role_in, signal_paired}
 use Rattle.latch_match.specs.Looked.{AreLookups, facts_in}
 use Rattle.latch_match.specs.Marked.{AreCounts, has_in}
-use Rattle.latch_match.specs.Paired.{ArePaired, IsSetOf, carriers, clocked_without_port, interface_by, output_in, port_in_way, signal_in_way, way_in}
+use Rattle.latch_match.specs.Paired.{ArePaired, IsSetOf, carriers, clocked_without_port, output_in, port_in_way, signal_in_way, way_in}
 use Rattle.latch_match.specs.declared.counts.Counts.{Counts}
 use Rattle.latch_match.specs.declared.facts.PortFacts.{PortFacts}
 use Rattle.latch_match.specs.declared.lookups.Lookups.{Lookups}

@@ -2,4 +2,3 @@ pub mod Facts
 pub mod Looked
 pub mod Marked
 pub mod Paired
-pub mod Tables

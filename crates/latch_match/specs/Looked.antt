@@ -2,7 +2,7 @@
 use Rattle.std.specs.Prelude.{◌≡◌, ℕ, Bool, false, cond, ◌++◌, ◌∷◌, [], List, map, filter_map, find, slice_get, Option, Some, None, option_map, unwrap_or, is_some, bytes_eq}
 use Rattle.std.specs.Str.{str_to_ascii_lowercase}
 use Rattle.rule_index.specs.Tables.{supply_in}
-use Rattle.rule_index.specs.declared.firsts.FirstValues.{FirstValues}
+use Rattle.name_tables.specs.declared.firsts.FirstValues.{FirstValues}
 use Rattle.vrt_model.specs.Lists.{has_name}
 use Rattle.vrt_model.specs.Elements.{signal_name}
 use Rattle.vrt_model.specs.Expressions.{names_in}
@@ -13,10 +13,10 @@ use Rattle.vrt_model.specs.declared.rules.ClockRef.{ClockRef}
 use Rattle.vrt_model.specs.declared.rules.ClockportRule.{ClockportRule}
 use Rattle.vrt_model.specs.declared.rules.PortRule.{PortRule}
 use Rattle.vrt_model.specs.declared.rules.Rules.{Rules}
-use Rattle.latch_match.specs.Tables.{IsTable, Named, first_in, named}
+use Rattle.name_tables.specs.Tables.{IsTable, Named, first_value, named}
 use Rattle.latch_match.specs.declared.facts.PortFacts.{PortFacts}
 use Rattle.latch_match.specs.declared.lookups.Lookups.{Lookups}
-use Rattle.latch_match.specs.declared.table.Table.{Table}
+use Rattle.name_tables.specs.declared.table.NameTable.{NameTable}
 
 -- a signal under its name, as it is and in lower case
 abbrev pub by_name : FlatModel → ℕ → Named ℕ
@@ -48,7 +48,7 @@ abbrev pub assumed_at : List AssumeRule → List ℕ → ℕ → Bool
 assumed_at rules port p = unwrap_or (option_map (λ (r : AssumeRule). has_name (names_in r.expression) port) (slice_get rules p)) false
 
 -- a table gets what a rule says, if it says anything
-abbrev pub Grows : {X V : Type 0} → (X → Option (Named V)) → X → Table V → Table V → Type 0
+abbrev pub Grows : {X V : Type 0} → (X → Option (Named V)) → X → NameTable V → NameTable V → Type 0
 Grows {X} {V} h x t u = (entries : List (Named V)) → IsTable entries t → IsTable (entries ++ filter_map h (x ∷ [])) u
 
 -- tables with no values
@@ -70,9 +70,9 @@ pub record AreLookups (flat : FlatModel) (rules : Rules) (cell : List ℕ) (l : 
 abbrev pub facts_in : FirstValues Bool → Lookups → List ℕ → PortFacts
 facts_in supplies l port = record {
   supply = supply_in supplies port;
-  clock = first_in l.clocks port;
-  is_ruled = is_some (first_in l.ruled port);
-  signal = unwrap_or (first_in l.ruled port) (first_in l.signals port);
-  fits_again = has_name l.signals.seconds port;
+  clock = first_value l.clocks port;
+  is_ruled = is_some (first_value l.ruled port);
+  signal = unwrap_or (first_value l.ruled port) (first_value l.signals port);
+  fits_again = has_name l.signals.again port;
   is_assumed = has_name l.assumed port;
 }

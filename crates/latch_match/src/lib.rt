@@ -11,7 +11,6 @@ mod models;
 mod numbers;
 mod ports;
 mod signals;
-mod table;
 
 pub use faults::PairFault;
 pub use hold_groups::{MatchFault, groups};

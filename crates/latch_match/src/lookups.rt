@@ -6,12 +6,12 @@ ghost use Rattle.vrt_model.specs.Expressions.{names_in};
 ghost use Rattle.vrt_model.specs.PairedPorts.{interface};
 ghost use Rattle.rule_index.specs.Lines.{ArePortLines};
 ghost use Rattle.latch_match.specs.Looked.{AreEmpty, AreLookups, Grows, assumed_at, by_lower_name, by_name, clock_at, facts_in, ruled_at};
-ghost use Rattle.latch_match.specs.Tables.{IsTable, Named, first_in};
+ghost use Rattle.name_tables.specs.Tables.{IsTable, Named, first_value};
 ghost use Rattle.std.specs.List.{list_any};
 
 use crate::facts::PortFacts;
 use crate::lower_names::signal_name;
-use crate::table::Table;
+use name_tables::NameTable;
 use names::Names;
 use rule_index::{FirstValues, PortLines, lowered_name, supply};
 use std::alloc::Global;
@@ -24,15 +24,19 @@ use vrt_model::{
 #[derive(Drop)]
 pub(crate) struct Lookups {
     alloc: Global,
-    signals: Table<u32>,
-    names: Table<u32>,
-    clocks: Table<ClockRef>,
-    ruled: Table<Option<u32>>,
+    signals: NameTable<u32>,
+    names: NameTable<u32>,
+    clocks: NameTable<ClockRef>,
+    ruled: NameTable<Option<u32>>,
     assumed: Names,
 }
 
 /// Adds signals under their names.
-fn add_by_name(table: &mut Table<u32>, flat: &FlatModel, signals: &[u32]) -> Result<(), NoMemory>
+fn add_by_name(
+    table: &mut NameTable<u32>,
+    flat: &FlatModel,
+    signals: &[u32],
+) -> Result<(), NoMemory>
     requires { IsTable [] table.old }
     ensures { OnOk result (IsTable (map (by_name flat.now) signals.now) table.new) }
 {
@@ -45,7 +49,7 @@ fn add_by_name(table: &mut Table<u32>, flat: &FlatModel, signals: &[u32]) -> Res
 /// Adds a signal under its name in lower case.
 fn add_lowered(
     alloc: Global,
-    table: &mut Table<u32>,
+    table: &mut NameTable<u32>,
     flat: &FlatModel,
     signal: u32,
 ) -> Result<(), NoMemory>
@@ -59,7 +63,7 @@ fn add_lowered(
 /// Adds signals under their names in lower case.
 fn add_by_lower_name(
     alloc: Global,
-    table: &mut Table<u32>,
+    table: &mut NameTable<u32>,
     flat: &FlatModel,
     signals: &[u32],
 ) -> Result<(), NoMemory>
@@ -74,7 +78,7 @@ fn add_by_lower_name(
 
 /// Adds the clock of the port that the rule at a place names.
 fn add_clock(
-    table: &mut Table<ClockRef>,
+    table: &mut NameTable<ClockRef>,
     rules: &Seq<ClockportRule>,
     place: usize,
 ) -> Result<(), NoMemory>
@@ -89,7 +93,7 @@ fn add_clock(
 
 /// Adds the clocks of the ports that the rules at places name.
 fn add_clocks(
-    table: &mut Table<ClockRef>,
+    table: &mut NameTable<ClockRef>,
     rules: &Seq<ClockportRule>,
     places: &[usize],
 ) -> Result<(), NoMemory>
@@ -104,12 +108,12 @@ fn add_clocks(
 
 /// Adds the signal of the `port` rule at a place, found in a table by its name.
 fn add_signal(
-    table: &mut Table<Option<u32>>,
-    signals: &Table<u32>,
+    table: &mut NameTable<Option<u32>>,
+    signals: &NameTable<u32>,
     rules: &Seq<PortRule>,
     place: usize,
 ) -> Result<(), NoMemory>
-    ensures { OnOk result (Grows (ruled_at (first_in signals.now) rules.now) place table.old table.new) }
+    ensures { OnOk result (Grows (ruled_at (first_value signals.now) rules.now) place table.old table.new) }
 {
     match rules.get(place) {
         Some(rule) => {
@@ -123,13 +127,13 @@ fn add_signal(
 
 /// Adds the signals of the `port` rules at places, found in a table by their names.
 fn add_signals(
-    table: &mut Table<Option<u32>>,
-    signals: &Table<u32>,
+    table: &mut NameTable<Option<u32>>,
+    signals: &NameTable<u32>,
     rules: &Seq<PortRule>,
     places: &[usize],
 ) -> Result<(), NoMemory>
     requires { IsTable [] table.old }
-    ensures { OnOk result (IsTable (filter_map (ruled_at (first_in signals.now) rules.now) places.now) table.new) }
+    ensures { OnOk result (IsTable (filter_map (ruled_at (first_value signals.now) rules.now) places.now) table.new) }
 {
     for place in places {
         add_signal(table, signals, rules, *place)?;
@@ -199,10 +203,10 @@ impl Lookups {
     {
         Lookups {
             alloc,
-            signals: Table::new(alloc),
-            names: Table::new(alloc),
-            clocks: Table::new(alloc),
-            ruled: Table::new(alloc),
+            signals: NameTable::new(alloc),
+            names: NameTable::new(alloc),
+            clocks: NameTable::new(alloc),
+            ruled: NameTable::new(alloc),
             assumed: Names::new(alloc),
         }
     }
@@ -236,7 +240,7 @@ impl Lookups {
 
 /// The signal that the rule of a port names, else the first that fits it by name.
 fn signal_of(lookups: &Lookups, port: &[u8]) -> Option<u32>
-    ensures { result ≡ unwrap_or (first_in lookups.now.ruled port.now) (first_in lookups.now.signals port.now) }
+    ensures { result ≡ unwrap_or (first_value lookups.now.ruled port.now) (first_value lookups.now.signals port.now) }
 {
     match lookups.ruled.first(port) {
         Some(signal) => signal,

@@ -1,3 +1,3 @@
 mod DepthLaws
 mod FirstLaws
-mod ReachedLaws
+pub mod ReachedLaws

@@ -5,6 +5,8 @@
 mod depths;
 mod first;
 mod reached;
+mod search;
 
 pub use depths::{are_shallow, depths_of, whole_depths};
 pub use first::{NestingFault, first_fault};
+pub use search::{is_marked, meet, no_marks, number_at};

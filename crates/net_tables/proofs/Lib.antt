@@ -1,4 +1,3 @@
-pub mod SupplyLaws
 pub mod OwnLaws
 pub mod NetLaws
 pub mod TableLaws

@@ -1,4 +1,3 @@
-pub mod Supplies
 pub mod Nets
 pub mod Names
 pub mod Tables

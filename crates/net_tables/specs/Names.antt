@@ -2,7 +2,7 @@
 use Rattle.std.specs.Prelude.{◌≡◌, ℕ, List, [], ◌∷◌, map, Option, Some, None, unwrap_or}
 use Rattle.names.specs.Names.{with_name, with_names}
 use Rattle.net_tables.specs.Nets.{shared_net}
-use Rattle.net_tables.specs.Supplies.{IsFresh as IsFreshSupplies, supply_in}
+use Rattle.name_tables.specs.Firsts.{IsFresh as IsFreshSupplies}
 use Rattle.net_tables.specs.declared.shared.SharedNames.{SharedNames}
 use Rattle.net_tables.specs.declared.types.CellNames.{CellNames}
 use Rattle.net_tables.specs.declared.types.CellNet.{CellNet}
@@ -10,6 +10,7 @@ use Rattle.net_tables.specs.declared.types.CellNet.TheVariants.{Own}
 use Rattle.net_tables.specs.declared.types.CellNets.{CellNets}
 use Rattle.net_tables.specs.declared.types.DeviceNets.{DeviceNets}
 use Rattle.net_tables.specs.declared.types.InstanceNets.{InstanceNets}
+use Rattle.rule_index.specs.Tables.{supply_in}
 use Rattle.vrt_model.specs.CellRules.{supply_of}
 use Rattle.vrt_model.specs.Lists.{place_of}
 use Rattle.vrt_model.specs.Unrolled.{mentions}

@@ -6,12 +6,10 @@ mod cell_nets;
 mod own;
 mod places;
 mod shared;
-mod supplies;
 mod tables;
 mod types;
 
 pub use places::place_net;
 pub use shared::SharedNames;
-pub use supplies::Supplies;
 pub use tables::{NetTables, find_net, net_tables};
 pub use types::{CellNames, CellNet, CellNets, DeviceNets, InstanceNets};

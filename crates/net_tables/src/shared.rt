@@ -5,9 +5,9 @@ ghost use Rattle.net_tables.specs.Names.{AreShared, IsFresh, cell_in, shared_in}
 ghost use Rattle.vrt_model.specs.Inputs.{IsDesign};
 ghost use Rattle.vrt_model.specs.Lists.{distinct};
 
-use crate::supplies::Supplies;
 use crate::types::CellNet;
 use names::Names;
+use rule_index::{FirstValues, note_supplies, supply};
 use std::alloc::Global;
 use vrt_model::{Cell, Design, NoMemory, Rules};
 
@@ -16,7 +16,7 @@ pub struct SharedNames {
     /// The names of the cells. The place of a name is the number of its cell.
     pub(crate) cells: Names,
     /// The names of the supplies.
-    pub(crate) supplies: Supplies,
+    pub(crate) supplies: FirstValues<bool>,
     /// The names on `.global` cards.
     pub(crate) globals: Names,
 }
@@ -50,7 +50,7 @@ impl SharedNames {
     {
         SharedNames {
             cells: Names::new(alloc),
-            supplies: Supplies::new(alloc),
+            supplies: FirstValues::new(alloc),
             globals: Names::new(alloc),
         }
     }
@@ -62,7 +62,7 @@ impl SharedNames {
         ensures { OnOk result (AreShared design.now rules.now self.new) }
     {
         add_cells(&mut self.cells, design.cells.as_slice())?;
-        self.supplies.fill(rules.supplies.as_slice())?;
+        note_supplies(&mut self.supplies, rules.supplies.as_slice())?;
         self.globals.add_all(design.globals.as_slice())?;
         Ok(())
     }
@@ -78,7 +78,7 @@ impl SharedNames {
     pub(crate) fn net(&self, ports: &Names, name: &[u8]) -> Option<CellNet>
         ensures { result ≡ shared_in self.now ports.now name.now }
     {
-        if let Some(value) = self.supplies.get(name) {
+        if let Some(value) = supply(&self.supplies, name) {
             return Some(CellNet::Supply(value));
         }
         if let Some(place) = ports.place(name) {

@@ -77,6 +77,13 @@ pub before_in : (c : Circuit) (i : ℕ) (w : Whole) → At c.wholes i w → leng
 before_in c i w there =
     omega (arith, before_length c (i + 1), ap (λ (ps : List WholePin). length ps) (before_more c i w there), length-append (pins_before c i) w.outputs)
 
+-- the place of a pin of one instance among all
+pub pin_place : (c : Circuit) (i : ℕ) (w : Whole) (at : ℕ) (pin : WholePin) → At c.wholes i w → At w.outputs at pin → At (pins_of c) (length (pins_before c i) + at) pin
+pin_place c i w at pin there here =
+    let k = length (pins_before c i) + at in
+    let next : At (pins_before c (i + 1)) k pin = subst (λ (ps : List WholePin). At ps k pin) (sym (before_more c i w there)) (at_back (pins_before c i) w.outputs at pin here) in
+    subst (λ (ps : List WholePin). At ps k pin) (sym (before_rest c (i + 1))) (at_front (pins_before c (i + 1)) (outputs_of (drop (i + 1) c.wholes)) k pin next)
+
 -- ---- pins at the nets of a part
 
 pub at_append : (part : Part) (xs ys : List WholePin) → pins_at part (xs ++ ys) ≡ pins_at part xs + pins_at part ys

@@ -1,8 +1,9 @@
 -- Counts of the operations on the words of a part, one step after another.
-use Rattle.std.proofs.Common.{◌≡◌, ℕ, ◌+◌, ◌*◌, ◌<◌, ◌≤◌, Bool, not, ◌&&◌, Option, Some, None, List, length, Result, Ok, Err, slice_index, arith, ap, ap₂, sym, subst, inl, inr}
+use Rattle.std.proofs.Common.{◌≡◌, ℕ, ◌+◌, ◌*◌, ◌<◌, ◌≤◌, Bool, not, ◌&&◌, Option, Some, None, List, length, Result, Ok, Err, slice_index, arith, ap, ap₂, refl, sym, subst, inl, inr}
 use Rattle.std.specs.Prelude.{IfSome, slice_set}
 use Rattle.std.proofs.Math.Nat.{add-mul, mul_assoc, mul_comm, mul-le-mul_right}
 use Rattle.std.proofs.lemmas.Bool.{cases_eq}
+use Rattle.std.proofs.lemmas.Option.{slice_get_within}
 use Rattle.node_pool.specs.declared.region.Node.{Node}
 use Rattle.node_pool.specs.declared.region.Span.{Span}
 use Rattle.bdd_core.specs.declared.handle.H.{H}
@@ -14,18 +15,29 @@ use Rattle.bdd_core.proofs.Results.{if_ok_more}
 use Rattle.bdd_ops.specs.Counting.{Counts, IsCounted, IsSpanWithin}
 use Rattle.bdd_ops.proofs.CountingLaws.{counted_same, counted_then, counts_err, counts_made, counts_more, counts_ok, counts_then, counts_value}
 use Rattle.bdd_ops.proofs.WithinLaws.{span_kept, within_same, within_zero}
-use Rattle.vrt_model.specs.Lists.{differ}
+use Rattle.vrt_model.proofs.Members.{all_among}
+use Rattle.vrt_model.specs.Circuits.{IsNet}
+use Rattle.vrt_model.specs.Lists.{At, Among, differ}
+use Rattle.vrt_model.specs.Networks.{HasRanges}
 use Rattle.vrt_model.specs.Reading.{conducts_at}
+use Rattle.vrt_model.specs.declared.circuit.Circuit.{Circuit}
+use Rattle.vrt_model.specs.declared.circuit.Device.{Device}
 use Rattle.vrt_model.specs.declared.design.Kind.{Kind}
+use Rattle.vrt_model.specs.declared.whole.Whole.{Whole}
+use Rattle.vrt_model.specs.declared.whole.WholePin.{WholePin}
+use Rattle.channel_parts.specs.declared.part.Part.{Part}
 use Rattle.path_fixpoint.specs.Passed.{gated}
 use Rattle.path_fixpoint.specs.declared.side.Side.{Side}
 use Rattle.path_fixpoint.specs.declared.words.NetWords.{NetWords}
-use Rattle.path_fixpoint.specs.Parts.{is_on_side}
+use Rattle.path_fixpoint.specs.Parts.{IsGiven, IsPart, IsPlace, is_on_side, part_devices, pins_of}
 use Rattle.path_fixpoint.specs.Reaching.{bit_is, offered_end, reached_end, slot_of}
 use Rattle.path_fixpoint.specs.Strengths.{net_words, word_of}
-use Rattle.path_fixpoint.specs.Spending.{Finds, Rewrites, Spends}
+use Rattle.path_fixpoint.specs.Spending.{AreGatesWithin, ArePinsWithin, AreRootsWithin, Finds, IsWordWithin, Rewrites, Spends}
 use Rattle.bdd_core.proofs.Frames.{word_apart, word_beside, word_here}
+use Rattle.path_fixpoint.proofs.PinLaws.{pin_place, pins_before}
+use Rattle.path_fixpoint.proofs.Places.{EndIs}
 use Rattle.path_fixpoint.proofs.ReachLaws.{slot_high, slot_low}
+use Rattle.path_fixpoint.proofs.Spreading.{device_ranges, outside_given}
 
 module _ (u : ℕ) where
   pub within_gated : (kind : Kind) (gate signal : Function) → IsWithin u gate → IsWithin u signal → IsWithin u (gated kind gate signal)
@@ -35,10 +47,14 @@ module _ (u : ℕ) where
   pub handle_kept : (out : Span) (old new : Diagrams) (h : ℕ) → Writes out old new → h < length old.nodes → IsWithin u (meaning old.nodes h) → IsWithin u (meaning new.nodes h)
   handle_kept out old new h wr live w = within_same u (meaning old.nodes h) (meaning new.nodes h) (wr.adds.kept h live) w
 
-  -- a span beside the one that is written
+  -- a word of a span beside the one that is written
+  pub word_kept : (out span : Span) (old new : Diagrams) → Writes out old new → IsApart span out → IsFilled old span → (k : ℕ) → k < span.len → IsWordWithin u old span k → IsWordWithin u new span k
+  word_kept out span old new wr apart live k lt w =
+      subst (λ (h : ℕ). IsWithin u (meaning new.nodes h)) (sym (word_beside out span old new k wr apart lt)) (handle_kept out old new (word_at old span k) wr (live k lt) w)
+
+  -- all of them
   pub span_beside : (out span : Span) (old new : Diagrams) → Writes out old new → IsApart span out → IsFilled old span → IsSpanWithin u old span → IsSpanWithin u new span
-  span_beside out span old new wr apart live all =
-      span_kept u span old new (λ k lt. word_beside out span old new k wr apart lt) (λ k lt. wr.adds.kept (word_at old span k) (live k lt)) all
+  span_beside out span old new wr apart live all k lt = word_kept out span old new wr apart live k lt (all k lt)
 
   -- the span itself, where no word changed
   pub span_still : (out span : Span) (old new : Diagrams) → Writes out old new → new.words ≡ old.words → IsFilled old span → IsSpanWithin u old span → IsSpanWithin u new span
@@ -53,19 +69,76 @@ module _ (u : ℕ) where
   }
 
   -- whether a root has a value
-  pub root_within : (d : Diagrams) (roots : Span) (n : ℕ) (value : Bool) → n < roots.len → IsSpanWithin u d roots → IsWithin u (bit_is value (λ v. shows d roots n v))
-  root_within d roots n value lt all v w same = ap (λ (b : Bool). differ (not value) b) (all n lt v w same)
+  pub root_within : (d : Diagrams) (roots : Span) (n : ℕ) (value : Bool) → IsWordWithin u d roots n → IsWithin u (bit_is value (λ v. shows d roots n v))
+  root_within d roots n value word v w same = ap (λ (b : Bool). differ (not value) b) (word v w same)
 
   -- whether a value reaches the end of a channel
-  pub reached_within : (d : Diagrams) (roots : Span) (out : NetWords) (value : Bool) (place : Option ℕ) (n : ℕ) → n < roots.len
-      → IfSome place (λ i. net_words out.source * i + net_words out.source ≤ out.span.len) → IsSpanWithin u d roots → IsSpanWithin u d out.span → IsWithin u (λ v. reached_end d roots out value place n v)
-  reached_within d roots out value None n lt fits roots_in all = λ v w same. ap (λ (b : Bool). differ (not value) b) (roots_in n lt v w same)
-  reached_within d roots out value (Some i) n lt fits roots_in all = all (word_of out (slot_of out value) i) (omega (arith, fits, slot_low out value, slot_high out value))
+  pub reached_within : (d : Diagrams) (roots : Span) (out : NetWords) (value : Bool) (place : Option ℕ) (n : ℕ) → IfSome place (λ i. net_words out.source * i + net_words out.source ≤ out.span.len)
+      → (place ≡ None → IsWordWithin u d roots n) → IsSpanWithin u d out.span → IsWithin u (λ v. reached_end d roots out value place n v)
+  reached_within d roots out value None n fits root all = root_within d roots n value (root refl)
+  reached_within d roots out value (Some i) n fits root all = all (word_of out (slot_of out value) i) (omega (arith, fits, slot_low out value, slot_high out value))
 
   -- the same where the end is on a side
-  pub offered_within : (d : Diagrams) (roots : Span) (out : NetWords) (value : Bool) (side : Side) (place : Option ℕ) (n : ℕ) → n < roots.len
-      → IfSome place (λ i. net_words out.source * i + net_words out.source ≤ out.span.len) → IsSpanWithin u d roots → IsSpanWithin u d out.span → IsWithin u (λ v. offered_end d roots out value side place n v)
-  offered_within d roots out value side place n lt fits roots_in all = λ v w same. ap (λ (b : Bool). is_on_side side place && b) (reached_within d roots out value place n lt fits roots_in all v w same)
+  pub offered_within : (d : Diagrams) (roots : Span) (out : NetWords) (value : Bool) (side : Side) (place : Option ℕ) (n : ℕ) → IfSome place (λ i. net_words out.source * i + net_words out.source ≤ out.span.len)
+      → (place ≡ None → IsWordWithin u d roots n) → IsSpanWithin u d out.span → IsWithin u (λ v. offered_end d roots out value side place n v)
+  offered_within d roots out value side place n fits root all = λ v w same. ap (λ (b : Bool). is_on_side side place && b) (reached_within d roots out value place n fits root all v w same)
+
+  -- the gates of a part's devices, and the roots that it reads
+  module _ (c : Circuit) (part : Part) where
+    gate_low : HasRanges c → (gates : Span) → gates.len ≡ length c.nets → (dev : Device) → Among (part_devices c part) dev → dev.gate.0 < gates.len
+    gate_low in_range gates len dev m = omega (arith, (device_ranges c part dev in_range m).gate, len)
+
+    pub part_gates_within : HasRanges c → (gates : Span) (d : Diagrams) → gates.len ≡ length c.nets → IsSpanWithin u d gates → AreGatesWithin u c part gates d
+    part_gates_within in_range gates d len all dev m = all dev.gate.0 (gate_low in_range gates len dev m)
+
+    pub gates_beside : HasRanges c → (out gates : Span) (old new : Diagrams) → gates.len ≡ length c.nets → Writes out old new → IsApart gates out → IsFilled old gates → AreGatesWithin u c part gates old → AreGatesWithin u c part gates new
+    gates_beside in_range out gates old new len wr apart live reads dev m = word_kept out gates old new wr apart live dev.gate.0 (gate_low in_range gates len dev m) (reads dev m)
+
+    module _ (is_part : IsPart c part) (roots : Span) (len : length c.nets + length (pins_of c) ≤ roots.len) where
+      given_low : (n : ℕ) → IsGiven c n → n < roots.len
+      given_low n g = omega (arith, slice_get_within c.nets n g.0 g.1, len)
+
+      place_low : (i n : ℕ) → IsPlace part i n → n < roots.len
+      place_low i n p = (let e = p.2 in omega (arith, all_among (IsNet c) part.nets p.0 is_part.nets (i, p.1), e, len))
+
+      pin_low : (at : ℕ) (pin : WholePin) → At (pins_of c) at pin → length c.nets + at < roots.len
+      pin_low at pin there = omega (arith, slice_get_within (pins_of c) at pin there, len)
+
+      pub part_roots_within : (d : Diagrams) → IsSpanWithin u d roots → AreRootsWithin u c part roots d
+      part_roots_within d all = record {
+        left = λ dev m g. all dev.left.0 (given_low dev.left.0 g);
+        right = λ dev m g. all dev.right.0 (given_low dev.right.0 g);
+        given = λ i n p g. all n (given_low n g);
+        held = λ at i hold there p. all hold.net.0 (place_low i hold.net.0 p);
+        driven = λ at i pin there p. all (length c.nets + at) (pin_low at pin there);
+      }
+
+      pub roots_beside : (out : Span) (old new : Diagrams) → Writes out old new → IsApart roots out → IsFilled old roots → AreRootsWithin u c part roots old → AreRootsWithin u c part roots new
+      roots_beside out old new wr apart live reads =
+          let kept = word_kept out roots old new wr apart live in
+          record {
+            left = λ dev m g. kept dev.left.0 (given_low dev.left.0 g) (reads.left dev m g);
+            right = λ dev m g. kept dev.right.0 (given_low dev.right.0 g) (reads.right dev m g);
+            given = λ i n p g. kept n (given_low n g) (reads.given i n p g);
+            held = λ at i hold there p. kept hold.net.0 (place_low i hold.net.0 p) (reads.held at i hold there p);
+            driven = λ at i pin there p. kept (length c.nets + at) (pin_low at pin there) (reads.driven at i pin there p);
+          }
+
+    -- the output pins of one instance, behind those of the instances before it
+    pub outputs_within : (roots : Span) (d : Diagrams) (i : ℕ) (w : Whole) (outputs : List WholePin) (first : ℕ) → At c.wholes i w → outputs ≡ w.outputs → first ≡ length c.nets + length (pins_before c i)
+        → AreRootsWithin u c part roots d → ArePinsWithin u part outputs first roots d
+    outputs_within roots d i w outputs first there shown behind reads k j pin here p =
+        let place = length (pins_before c i) + k in
+        let same : length c.nets + place ≡ first + k = omega (arith, behind) in
+        subst (IsWordWithin u d roots) same (reads.driven place j pin (pin_place c i w k pin there (subst (λ (ps : List WholePin). At ps k pin) shown here)) p)
+
+    -- the ends of a device's channel outside the part
+    module _ (is_part : IsPart c part) (dev : Device) (m : Among (part_devices c part) dev) (roots : Span) (d : Diagrams) (reads : AreRootsWithin u c part roots d) (place : Option ℕ) where
+      pub left_within : EndIs part place dev.left.0 → place ≡ None → IsWordWithin u d roots dev.left.0
+      left_within is none = reads.left dev m (outside_given c part place dev.left is (is_part.left dev m) none)
+
+      pub right_within : EndIs part place dev.right.0 → place ≡ None → IsWordWithin u d roots dev.right.0
+      right_within is none = reads.right dev m (outside_given c part place dev.right is (is_part.right dev m) none)
 
   module _ (out : Span) where
     pub rewrites_then : (x y z : Diagrams) → Rewrites u out x y → Rewrites u out y z → Rewrites u out x z

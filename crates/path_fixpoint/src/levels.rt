@@ -11,7 +11,7 @@ ghost use Rattle.path_fixpoint.specs.Parts.{IsPart, IsPartOf, pins_of};
 ghost use Rattle.path_fixpoint.specs.Strengths.{ChangesLevel, HasLevel, HasSpans, HasWords, StandsAt, TellsStrengths};
 ghost use Rattle.bdd_core.specs.Words.{Writes};
 ghost use Rattle.bdd_ops.specs.Counting.{IsSpanWithin};
-ghost use Rattle.path_fixpoint.specs.Spending.{Rewrites, Spends};
+ghost use Rattle.path_fixpoint.specs.Spending.{AreGatesWithin, Rewrites, Spends};
 
 use crate::Part;
 use crate::direction::Direction;
@@ -123,7 +123,7 @@ fn make_level(
     ensures writes { Writes out.span store.old store.new }
     ensures apart { ChangesLevel out level store.old store.new }
     ensures level { IfOk result (λ _. (v : Valuation) (w : Network) → StandsAt circuit.now part.now gates store.old v w → (level < out.source → HasLevel part.now out (level + 1) store.old v w) → HasLevel part.now out level store.new v w) }
-    ensures few { (u : ℕ) → IsSpanWithin u store.old gates → IsSpanWithin u store.old out.span → Spends u (length part.now.nets * (length part.now.devices * 4)) out.span store.old store.new result }
+    ensures few { (u : ℕ) → AreGatesWithin u circuit.now part.now gates store.old → IsSpanWithin u store.old out.span → Spends u (length part.now.nets * (length part.now.devices * 4)) out.span store.old store.new result }
 {
     if is_unused(circuit, part, level) {
         take_above(store, part, out, level);
@@ -146,7 +146,7 @@ fn levels(
     requires words { HasWords circuit.now part.now gates out store.old }
     ensures writes { Writes out.span store.old store.new }
     ensures levels { IfOk result (λ _. (v : Valuation) (w : Network) → StandsAt circuit.now part.now gates store.old v w → (level : ℕ) → 1 ≤ level → level ≤ source_level circuit.now → HasLevel part.now out level store.new v w) }
-    ensures few { (u : ℕ) → IsSpanWithin u store.old gates → IsSpanWithin u store.old out.span → Spends u (source_level circuit.now * (length part.now.nets * (length part.now.devices * 4))) out.span store.old store.new result }
+    ensures few { (u : ℕ) → AreGatesWithin u circuit.now part.now gates store.old → IsSpanWithin u store.old out.span → Spends u (source_level circuit.now * (length part.now.nets * (length part.now.devices * 4))) out.span store.old store.new result }
 {
     store.sound();
     let source = out.source as u32;
@@ -176,7 +176,7 @@ pub fn strengths(
     requires spans { HasSpans circuit.now part.now gates out store.old }
     ensures writes { Writes out.span store.old store.new }
     ensures strengths { IfOk result (λ _. (v : Valuation) (w : Network) → StandsAt circuit.now part.now gates store.old v w → TellsStrengths circuit.now part.now out store.new v w) }
-    ensures few { (u : ℕ) → IsSpanWithin u store.old gates → Spends u (source_level circuit.now * (length part.now.nets * (length part.now.devices * 4))) out.span store.old store.new result }
+    ensures few { (u : ℕ) → AreGatesWithin u circuit.now part.now gates store.old → Spends u (source_level circuit.now * (length part.now.nets * (length part.now.devices * 4))) out.span store.old store.new result }
 {
     clear(store, out.span);
     let rising = rises(part);

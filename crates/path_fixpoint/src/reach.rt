@@ -10,7 +10,7 @@ ghost use Rattle.path_fixpoint.specs.Reaching.{HasReach, HasReachPaths, HasReach
 ghost use Rattle.path_fixpoint.specs.Strengths.{ChangesLevel, net_words};
 ghost use Rattle.bdd_core.specs.Words.{IsFilled, Writes};
 ghost use Rattle.bdd_ops.specs.Counting.{IsSpanWithin};
-ghost use Rattle.path_fixpoint.specs.Spending.{Spends};
+ghost use Rattle.path_fixpoint.specs.Spending.{AreGatesWithin, AreRootsWithin, Spends};
 
 use crate::Part;
 use crate::direction::Direction;
@@ -86,7 +86,7 @@ fn visit(
     ensures writes { Writes out.span store.old store.new }
     ensures apart { ChangesLevel out (slot_of out value) store.old store.new }
     ensures spreads { IfOk result (λ changed. SpreadsValue circuit.now part.now gates roots out value side (λ d. d ≡ device.now) changed store.old store.new) }
-    ensures few { (u : ℕ) → IsSpanWithin u store.old gates → IsSpanWithin u store.old roots → IsSpanWithin u store.old out.span → Spends u (4 * out.source + 6) out.span store.old store.new result }
+    ensures few { (u : ℕ) → AreGatesWithin u circuit.now part.now gates store.old → AreRootsWithin u circuit.now part.now roots store.old → IsSpanWithin u store.old out.span → Spends u (4 * out.source + 6) out.span store.old store.new result }
 {
     store.sound();
     let gate = H(store.read(gates, device.gate.0));
@@ -136,7 +136,7 @@ fn round(
     ensures writes { Writes out.span store.old store.new }
     ensures apart { ChangesLevel out (slot_of out value) store.old store.new }
     ensures spreads { IfOk result (λ changed. SpreadsValue circuit.now part.now gates roots out value side (Among (part_devices circuit.now part.now)) changed store.old store.new) }
-    ensures few { (u : ℕ) → IsSpanWithin u store.old gates → IsSpanWithin u store.old roots → IsSpanWithin u store.old out.span → Spends u (length part.now.devices * (4 * out.source + 6)) out.span store.old store.new result }
+    ensures few { (u : ℕ) → AreGatesWithin u circuit.now part.now gates store.old → AreRootsWithin u circuit.now part.now roots store.old → IsSpanWithin u store.old out.span → Spends u (length part.now.devices * (4 * out.source + 6)) out.span store.old store.new result }
 {
     store.sound();
     let mut changed = false;
@@ -170,7 +170,7 @@ pub(crate) fn settle(
     ensures writes { Writes out.span store.old store.new }
     ensures apart { ChangesLevel out (slot_of out value) store.old store.new }
     ensures reach { IfOk result (λ _. (v : Valuation) (w : Network) (s : ℕ → ℕ) → SolvedAt circuit.now part.now gates roots out store.old v w s → HasReachRoots circuit.now part.now out value store.old v w s → HasReachPaths part.now out value store.old v w s → HasReach part.now out value store.new v w) }
-    ensures few { (u : ℕ) → IsSpanWithin u store.old gates → IsSpanWithin u store.old roots → IsSpanWithin u store.old out.span → Spends u (length part.now.nets * (length part.now.devices * (4 * out.source + 6))) out.span store.old store.new result }
+    ensures few { (u : ℕ) → AreGatesWithin u circuit.now part.now gates store.old → AreRootsWithin u circuit.now part.now roots store.old → IsSpanWithin u store.old out.span → Spends u (length part.now.nets * (length part.now.devices * (4 * out.source + 6))) out.span store.old store.new result }
 {
     store.sound();
     let mut direction = Direction::Backward;

@@ -9,7 +9,7 @@ ghost use Rattle.path_fixpoint.specs.Parts.{part_devices, IsPartOf};
 ghost use Rattle.path_fixpoint.specs.Strengths.{ChangesLevel, HasLevel, HasPaths, HasRoots, HasWords, Passes, Spreads, StandsAt, net_words};
 ghost use Rattle.bdd_core.specs.Words.{IsFilled, Writes};
 ghost use Rattle.bdd_ops.specs.Counting.{IsSpanWithin};
-ghost use Rattle.path_fixpoint.specs.Spending.{Spends};
+ghost use Rattle.path_fixpoint.specs.Spending.{AreGatesWithin, Spends};
 
 use crate::Part;
 use crate::direction::Direction;
@@ -79,7 +79,7 @@ fn visit(
     ensures writes { Writes out.span store.old store.new }
     ensures apart { ChangesLevel out level store.old store.new }
     ensures spreads { IfOk result (λ changed. Spreads circuit.now part.now gates out level side (λ d. d ≡ device.now) changed store.old store.new) }
-    ensures few { (u : ℕ) → IsSpanWithin u store.old gates → IsSpanWithin u store.old out.span → Spends u 4 out.span store.old store.new result }
+    ensures few { (u : ℕ) → AreGatesWithin u circuit.now part.now gates store.old → IsSpanWithin u store.old out.span → Spends u 4 out.span store.old store.new result }
 {
     store.sound();
     if (device.level as u32) < level {
@@ -128,7 +128,7 @@ fn round(
     ensures writes { Writes out.span store.old store.new }
     ensures apart { ChangesLevel out level store.old store.new }
     ensures spreads { IfOk result (λ changed. Spreads circuit.now part.now gates out level side (Among (part_devices circuit.now part.now)) changed store.old store.new) }
-    ensures few { (u : ℕ) → IsSpanWithin u store.old gates → IsSpanWithin u store.old out.span → Spends u (length part.now.devices * 4) out.span store.old store.new result }
+    ensures few { (u : ℕ) → AreGatesWithin u circuit.now part.now gates store.old → IsSpanWithin u store.old out.span → Spends u (length part.now.devices * 4) out.span store.old store.new result }
 {
     store.sound();
     let mut changed = false;
@@ -162,7 +162,7 @@ pub(crate) fn settle(
     ensures writes { Writes out.span store.old store.new }
     ensures apart { ChangesLevel out level store.old store.new }
     ensures level { IfOk result (λ _. (v : Valuation) (w : Network) → StandsAt circuit.now part.now gates store.old v w → HasRoots part.now out level store.old v w → HasPaths part.now out level store.old v w → HasLevel part.now out level store.new v w) }
-    ensures few { (u : ℕ) → IsSpanWithin u store.old gates → IsSpanWithin u store.old out.span → Spends u (length part.now.nets * (length part.now.devices * 4)) out.span store.old store.new result }
+    ensures few { (u : ℕ) → AreGatesWithin u circuit.now part.now gates store.old → IsSpanWithin u store.old out.span → Spends u (length part.now.nets * (length part.now.devices * 4)) out.span store.old store.new result }
 {
     store.sound();
     let mut direction = Direction::Backward;

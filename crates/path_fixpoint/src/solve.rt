@@ -10,7 +10,7 @@ ghost use Rattle.path_fixpoint.specs.Solved.{HasRootSpans, TellsReach, network_a
 ghost use Rattle.path_fixpoint.specs.Strengths.{ChangesLevel, TellsStrengths, circuit_words};
 ghost use Rattle.bdd_core.specs.Words.{Writes};
 ghost use Rattle.bdd_ops.specs.Counting.{IsSpanWithin};
-ghost use Rattle.path_fixpoint.specs.Spending.{HasOneHold, Spends, solving_operations};
+ghost use Rattle.path_fixpoint.specs.Spending.{AreGatesWithin, AreRootsWithin, HasOneHold, Spends, solving_operations};
 
 use crate::Part;
 use crate::levels::strengths;
@@ -38,7 +38,7 @@ fn reaches(
     ensures writes { Writes out.span store.old store.new }
     ensures apart { ChangesLevel out (slot_of out value) store.old store.new }
     ensures reach { IfOk result (λ _. (v : Valuation) (w : Network) (s : ℕ → ℕ) → SolvedAt circuit.now part.now gates roots out store.old v w s → HasReach part.now out value store.new v w) }
-    ensures few { HasOneHold circuit.now → (u : ℕ) → IsSpanWithin u store.old gates → IsSpanWithin u store.old roots → IsSpanWithin u store.old out.span → Spends u (length part.now.nets * 6 + pins_at part.now (pins_of circuit.now) * 3 + length part.now.nets * (length part.now.devices * (4 * out.source + 6))) out.span store.old store.new result }
+    ensures few { HasOneHold circuit.now → (u : ℕ) → AreGatesWithin u circuit.now part.now gates store.old → AreRootsWithin u circuit.now part.now roots store.old → IsSpanWithin u store.old out.span → Spends u (length part.now.nets * 6 + pins_at part.now (pins_of circuit.now) * 3 + length part.now.nets * (length part.now.devices * (4 * out.source + 6))) out.span store.old store.new result }
 {
     match open(store, circuit, part, rising, gates, roots, out, value) {
         Ok(()) => {}
@@ -62,7 +62,7 @@ fn solve_words(
     ensures writes { Writes out.span store.old store.new }
     ensures strengths { IfOk result (λ _. (v : Valuation) → TellsStrengths circuit.now part.now out store.new v (network_at store.old circuit.now part.now gates roots v)) }
     ensures reaches { IfOk result (λ _. AreSoftInside circuit.now part.now → (v : Valuation) → TellsReach part.now out store.new v (network_at store.old circuit.now part.now gates roots v)) }
-    ensures few { HasOneHold circuit.now → (u : ℕ) → IsSpanWithin u store.old gates → IsSpanWithin u store.old roots → Spends u (solving_operations circuit.now part.now) out.span store.old store.new result }
+    ensures few { HasOneHold circuit.now → (u : ℕ) → AreGatesWithin u circuit.now part.now gates store.old → AreRootsWithin u circuit.now part.now roots store.old → Spends u (solving_operations circuit.now part.now) out.span store.old store.new result }
 {
     let rising = rises(part);
     match strengths(store, circuit, part, gates, out) {
@@ -84,9 +84,11 @@ fn solve_words(
 ///
 /// Handles from before keep their functions and words outside `out` stay as they are, also where the budget is used up.
 ///
-/// Where the handles read only the first `u` variables and no net has two holds, a part of p nets and q devices, on which r outputs of
-/// whole instances stand, takes at most (12 l + 12) p q + 12 p + 6 r operations of `2 ^ u` nodes, where l is the source level; the handles
-/// that are written read only these variables too.
+/// Where the gates of the part's devices and the roots that it reads depend only on the first `u` variables and no net has two holds,
+/// a part of p nets and q devices, on which r outputs of whole instances stand, takes at most (12 l + 12) p q + 12 p + 6 r operations
+/// of `2 ^ u` nodes, where l is the source level; the handles that are written depend only on these variables too. The roots that it
+/// reads are those of the given ends of its devices' channels, of its given nets, of its nets with a hold and of the outputs at its
+/// nets; the handles of all other nets may depend on any variables.
 pub fn solve_part(
     store: &mut Store,
     circuit: &Circuit,
@@ -101,7 +103,7 @@ pub fn solve_part(
     ensures writes { Writes out store.old store.new }
     ensures strengths { IfOk result (λ _. (v : Valuation) → TellsStrengths circuit.now part.now (circuit_words circuit.now out) store.new v (network_at store.old circuit.now part.now gates roots v)) }
     ensures reaches { IfOk result (λ _. AreSoftInside circuit.now part.now → (v : Valuation) → TellsReach part.now (circuit_words circuit.now out) store.new v (network_at store.old circuit.now part.now gates roots v)) }
-    ensures few { HasOneHold circuit.now → (u : ℕ) → IsSpanWithin u store.old gates → IsSpanWithin u store.old roots → Spends u (solving_operations circuit.now part.now) out store.old store.new result }
+    ensures few { HasOneHold circuit.now → (u : ℕ) → AreGatesWithin u circuit.now part.now gates store.old → AreRootsWithin u circuit.now part.now roots store.old → Spends u (solving_operations circuit.now part.now) out store.old store.new result }
 {
     let words = NetWords::new(circuit, out);
     solve_words(store, circuit, part, gates, roots, words)

@@ -13,7 +13,7 @@ ghost use Rattle.path_fixpoint.specs.Sources.{AddsRoots, HasDriveLevel, IsGivenS
 ghost use Rattle.path_fixpoint.specs.Strengths.{ChangesLevel, strong, word_of, HasMarks, net_words};
 ghost use Rattle.bdd_core.specs.Words.{IsApart, IsFilled, Writes, word_at};
 ghost use Rattle.bdd_ops.specs.Counting.{IsSpanWithin};
-ghost use Rattle.path_fixpoint.specs.Spending.{Finds, HasOneHold, Rewrites, Spends};
+ghost use Rattle.path_fixpoint.specs.Spending.{ArePinsWithin, AreRootsWithin, Finds, HasOneHold, IsWordWithin, Rewrites, Spends};
 
 use crate::Part;
 use crate::opening::{is_given, set};
@@ -88,7 +88,7 @@ fn add_root(
     ensures writes { Writes out.span store.old store.new }
     ensures apart { ChangesLevel out (slot_of out value) store.old store.new }
     ensures adds { IfOk result (λ _. AddsRoots part.now roots out value (λ n at size. (n ≡ source.net.0) × (at ≡ source.at) × (size ≡ source.size)) store.old store.new) }
-    ensures few { (u : ℕ) → IsSpanWithin u store.old roots → IsSpanWithin u store.old out.span → Spends u 0 out.span store.old store.new result ⊎ ((i : ℕ) × IsPlace part.now i source.net.0 × Spends u 3 out.span store.old store.new result) }
+    ensures few { (u : ℕ) → ((i : ℕ) → IsPlace part.now i source.net.0 → IsWordWithin u store.old roots source.at) → IsSpanWithin u store.old out.span → Spends u 0 out.span store.old store.new result ⊎ ((i : ℕ) × IsPlace part.now i source.net.0 × Spends u 3 out.span store.old store.new result) }
 {
     store.sound();
     let Some(i) = place(part, rising, source.net) else {
@@ -127,7 +127,7 @@ fn add_net(
     ensures writes { Writes out.span store.old store.new }
     ensures apart { ChangesLevel out (slot_of out value) store.old store.new }
     ensures adds { IfOk result (λ _. AddsRoots part.now roots out value (λ n at size. IsGiven circuit.now n × (n ≡ net.0) × (at ≡ n) × (size ≡ source_level circuit.now)) store.old store.new) }
-    ensures few { (u : ℕ) → IsSpanWithin u store.old roots → IsSpanWithin u store.old out.span → Spends u 3 out.span store.old store.new result }
+    ensures few { (u : ℕ) → (IsGiven circuit.now net.0 → IsWordWithin u store.old roots net.0) → IsSpanWithin u store.old out.span → Spends u 3 out.span store.old store.new result }
 {
     store.sound();
     if !is_given(circuit, net) {
@@ -157,7 +157,7 @@ fn add_given(
     ensures writes { Writes out.span store.old store.new }
     ensures apart { ChangesLevel out (slot_of out value) store.old store.new }
     ensures adds { IfOk result (λ _. AddsRoots part.now roots out value (IsGivenSource circuit.now part.now) store.old store.new) }
-    ensures few { (u : ℕ) → IsSpanWithin u store.old roots → IsSpanWithin u store.old out.span → Spends u (length part.now.nets * 3) out.span store.old store.new result }
+    ensures few { (u : ℕ) → AreRootsWithin u circuit.now part.now roots store.old → IsSpanWithin u store.old out.span → Spends u (length part.now.nets * 3) out.span store.old store.new result }
 {
     store.sound();
     let _gates = gates;
@@ -186,7 +186,7 @@ fn add_holds(
     ensures writes { Writes out.span store.old store.new }
     ensures apart { ChangesLevel out (slot_of out value) store.old store.new }
     ensures adds { IfOk result (λ _. AddsRoots part.now roots out value (IsHoldSource circuit.now) store.old store.new) }
-    ensures few { HasOneHold circuit.now → (u : ℕ) → IsSpanWithin u store.old roots → IsSpanWithin u store.old out.span → Spends u (length part.now.nets * 3) out.span store.old store.new result }
+    ensures few { HasOneHold circuit.now → (u : ℕ) → AreRootsWithin u circuit.now part.now roots store.old → IsSpanWithin u store.old out.span → Spends u (length part.now.nets * 3) out.span store.old store.new result }
 {
     store.sound();
     let _gates = gates;
@@ -225,7 +225,7 @@ fn add_outputs(
     ensures writes { Writes out.span store.old store.new }
     ensures apart { ChangesLevel out (slot_of out value) store.old store.new }
     ensures adds { IfOk result (λ _. AddsRoots part.now roots out value (IsPinSource out.source outputs.now first) store.old store.new) }
-    ensures few { (u : ℕ) → IsSpanWithin u store.old roots → IsSpanWithin u store.old out.span → Spends u (pins_at part.now outputs.now * 3) out.span store.old store.new result }
+    ensures few { (u : ℕ) → ArePinsWithin u part.now outputs.now first roots store.old → IsSpanWithin u store.old out.span → Spends u (pins_at part.now outputs.now * 3) out.span store.old store.new result }
 {
     store.sound();
     for at in 0..outputs.len() {
@@ -259,7 +259,7 @@ fn add_pins(
     ensures writes { Writes out.span store.old store.new }
     ensures apart { ChangesLevel out (slot_of out value) store.old store.new }
     ensures adds { IfOk result (λ _. AddsRoots part.now roots out value (IsPinSource out.source (pins_of circuit.now) (length circuit.now.nets)) store.old store.new) }
-    ensures few { (u : ℕ) → IsSpanWithin u store.old roots → IsSpanWithin u store.old out.span → Spends u (pins_at part.now (pins_of circuit.now) * 3) out.span store.old store.new result }
+    ensures few { (u : ℕ) → AreRootsWithin u circuit.now part.now roots store.old → IsSpanWithin u store.old out.span → Spends u (pins_at part.now (pins_of circuit.now) * 3) out.span store.old store.new result }
 {
     store.sound();
     let _gates = gates;
@@ -292,7 +292,7 @@ pub(crate) fn open(
     ensures apart { ChangesLevel out (slot_of out value) store.old store.new }
     ensures roots { IfOk result (λ _. (v : Valuation) (w : Network) (s : ℕ → ℕ) → SolvedAt circuit.now part.now gates roots out store.old v w s → HasReachRoots circuit.now part.now out value store.new v w s) }
     ensures paths { IfOk result (λ _. (v : Valuation) (w : Network) (s : ℕ → ℕ) → SolvedAt circuit.now part.now gates roots out store.old v w s → HasReachPaths part.now out value store.new v w s) }
-    ensures few { HasOneHold circuit.now → (u : ℕ) → IsSpanWithin u store.old roots → IsSpanWithin u store.old out.span → Spends u (length part.now.nets * 6 + pins_at part.now (pins_of circuit.now) * 3) out.span store.old store.new result }
+    ensures few { HasOneHold circuit.now → (u : ℕ) → AreRootsWithin u circuit.now part.now roots store.old → IsSpanWithin u store.old out.span → Spends u (length part.now.nets * 6 + pins_at part.now (pins_of circuit.now) * 3) out.span store.old store.new result }
 {
     clear(store, part, out, value);
     match add_given(store, circuit, part, rising, gates, roots, out, value) {

@@ -5,7 +5,8 @@ use Rattle.std.specs.List.{enumerate_from}
 use Rattle.std.proofs.lemmas.Bool.{and_from, and_parts, cases_lt, false_from_ne_true, false≢true, le-leb, lt-ltb, ltb-true}
 use Rattle.std.proofs.lemmas.Option.{none-some, same_Some}
 use Rattle.placed_cells.proofs.ListLaws.{enumerated, in_enumerated, zip_right}
-use Rattle.placed_cells.proofs.PathLaws.{drop_front, path_on}
+use Rattle.place_paths.proofs.PathLaws.{path_on}
+use Rattle.placed_cells.proofs.PathLaws.{drop_front}
 use Rattle.placed_cells.specs.Cuts.{AreBefore, CutShowsInside}
 use Rattle.placed_cells.specs.Instances.{ShowsInside}
 use Rattle.placed_cells.specs.Splits.{IsSplit, leads_through}

@@ -1,21 +1,19 @@
 -- Where the cells of a netlist can be ordered, none is deeper than places are unrolled.
-use Rattle.std.proofs.Common.{◌≡◌, ◌<◌, ◌≤◌, ◌∷◌, ◌||◌, ◌⊎◌, [], ℕ, zero, suc, not, cond, List, Bool, true, false, map, length, Option, Some, None, refl, ap, sym, subst, arith, inl, inr}
-use Rattle.std.specs.Prelude.{bytes_eq, nat_eq, position, unwrap_or}
+use Rattle.std.proofs.Common.{◌≡◌, ◌<◌, ◌≤◌, ◌∷◌, ◌||◌, ◌⊎◌, [], ℕ, zero, suc, not, cond, List, Bool, true, false, map, length, refl, ap, sym, subst, arith, inl, inr}
+use Rattle.std.specs.Prelude.{nat_eq}
 use Rattle.std.proofs.lemmas.Bool.{cases_Bool, cases_eq, cases_lt, eq-eqb, eqb-true, false≢true, or_cases}
-use Rattle.std.proofs.lemmas.List.Quantifiers.{position-Some}
 use Rattle.std.proofs.lemmas.Option.{none-some, same_Some}
 use Rattle.cell_inside.specs.Shifted.{IsWithinDepth}
+use Rattle.place_paths.proofs.CellNames.{inner_inside}
 use Rattle.placed_cells.specs.Depths.{OrderedIsWithinDepth}
 use Rattle.vrt_model.proofs.Lists.{map_among}
-use Rattle.vrt_model.proofs.Members.{among_later, among_map}
+use Rattle.vrt_model.proofs.Members.{among_later}
 use Rattle.vrt_model.specs.Comparison.{cell_at}
 use Rattle.vrt_model.specs.Cut.{count_below}
 use Rattle.vrt_model.specs.Hierarchy.{cells_in}
 use Rattle.vrt_model.specs.Lists.{Among}
 use Rattle.vrt_model.specs.Nesting.{ContainsItself, IsWithin, depth_in, directly, further, greatest}
 use Rattle.vrt_model.specs.Unrolled.{Top, cell_named}
-use Rattle.vrt_model.specs.declared.design.Cell.{Cell}
-use Rattle.vrt_model.specs.declared.design.Design.{Design}
 use Rattle.vrt_model.specs.declared.design.InstanceCard.{InstanceCard}
 
 -- ---- greatest numbers
@@ -127,23 +125,7 @@ module _ (children : ℕ → List ℕ) (count : ℕ) (inside : (n m : ℕ) → A
 
 -- ---- cells
 
--- the cell of a name is there, where some cell is
-pub named_inside : (design : Design) (name : List ℕ) → 0 < length design.cells → cell_named design name < length design.cells
-named_inside design name some = by_place (position (λ (c : Cell). bytes_eq c.name name) design.cells) refl
-  where
-    by_place : (o : Option ℕ) → position (λ (c : Cell). bytes_eq c.name name) design.cells ≡ o → unwrap_or o 0 < length design.cells
-    by_place None e = some
-    by_place (Some k) e =
-        let none : Cell = record { line = 0; name = []; ports = []; devices = []; instances = [] } in
-        let found = position-Some (λ (c : Cell). bytes_eq c.name name) design.cells k none e in
-        found.0
-
 module _ (t : Top) where
-  inner_inside : 0 < length t.design.cells → (n m : ℕ) → Among (cells_in t.design n) m → m < length t.design.cells
-  inner_inside some n m a =
-      let found = among_map (λ (i : InstanceCard). cell_named t.design i.cell) (cell_at t.design n).instances m a in
-      subst (λ (k : ℕ). k < length t.design.cells) found.2 (named_inside t.design found.0.cell some)
-
   depth_some : (rounds n : ℕ) → 1 ≤ depth_in (cells_in t.design) rounds n
   depth_some zero n = omega arith
   depth_some (suc rounds) n = omega arith
@@ -165,6 +147,6 @@ ordered_is_within_depth t cell ordered there =
     elim (cases_lt 32 (length t.design.cells)) [
       | inl many ↦ let le = ordered.shallow cell there in within_depth t 32 (length t.design.cells) cell many (omega (arith, le))
       | inr few ↦
-          let le = depth_few (cells_in t.design) (length t.design.cells) (inner_inside t (omega (arith, there))) ordered.well_founded 33 cell there in
+          let le = depth_few (cells_in t.design) (length t.design.cells) (inner_inside t.design (omega (arith, there))) ordered.well_founded 33 cell there in
           within_depth t 32 33 cell (omega arith) (omega (arith, le, few))
     ]

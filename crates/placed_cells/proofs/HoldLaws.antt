@@ -4,8 +4,7 @@ use Rattle.std.specs.Prelude.{bytes_eq, filter_map, find, nat_lt, option_map}
 use Rattle.std.specs.List.{enumerate_from, list_any}
 use Rattle.std.proofs.lemmas.Bool.{ltb-true}
 use Rattle.std.proofs.lemmas.Option.{none-some, same_Some}
-use Rattle.placed_cells.proofs.CellNames.{cell_of_name}
-use Rattle.placed_cells.proofs.DepthLaws.{named_inside}
+use Rattle.place_paths.proofs.CellNames.{cell_of_name, named_inside}
 use Rattle.placed_cells.proofs.ListLaws.{in_enumerated}
 use Rattle.placed_cells.specs.Rows.{own_size}
 use Rattle.placed_cells.specs.Splits.{is_net_in}

@@ -4,7 +4,8 @@ use Rattle.std.specs.Prelude.{bytes_eq, filter_map, find, nat_lt, option_map}
 use Rattle.std.specs.List.{list_any}
 use Rattle.std.proofs.lemmas.Bool.{and_parts, ltb-true}
 use Rattle.std.proofs.lemmas.Option.{none-some, same_Some}
-use Rattle.placed_cells.proofs.CellNames.{cell_of_name, position_there}
+use Rattle.place_paths.proofs.CellNames.{cell_of_name}
+use Rattle.placed_cells.proofs.CellNames.{position_there}
 use Rattle.placed_cells.specs.Named.{AssumedPortsAreThere, HoldNetsAreThere}
 use Rattle.vrt_model.proofs.Lists.{among_filter_map, filter_map_among, map_among}
 use Rattle.vrt_model.proofs.Members.{among_left, among_right, any_among, find_none}

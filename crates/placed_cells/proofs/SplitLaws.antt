@@ -5,7 +5,9 @@ use Rattle.std.proofs.lemmas.Option.{none-some, same_Some}
 use Rattle.cell_inside.proofs.ShiftedPlaces.{among_name}
 use Rattle.cell_inside.specs.Shifted.{IsWithinDepth}
 use Rattle.placed_cells.proofs.NameLaws.{HasGlobals, NamesHave, NetsHave, all_have, cards_have, inner_globals, name_among, net_has, tied_have}
-use Rattle.placed_cells.proofs.PathLaws.{cards_apart, leads, leads_not_past, leads_not_short, path_on, path_over, same_card, step_at}
+use Rattle.place_paths.proofs.PathLaws.{cards_apart, path_on, path_over}
+use Rattle.place_paths.specs.Paths.{same_card, step_at}
+use Rattle.placed_cells.proofs.PathLaws.{leads, leads_not_past, leads_not_short}
 use Rattle.placed_cells.proofs.RowLaws.{all_in_row, cards_in_row, cards_size, in_row, row_ends, row_grows, row_split}
 use Rattle.placed_cells.specs.Rows.{AreInRow, own_size, size_inside}
 use Rattle.placed_cells.specs.Splits.{IsOutsideOf, IsSplit, PlacesInStandTogether, leads_through}

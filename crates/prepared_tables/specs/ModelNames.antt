@@ -1,10 +1,10 @@
 -- The models of a file by their names, in tables.
-use Rattle.std.specs.Prelude.{◌≡◌, ◌||◌, ◌&&◌, ℕ, List, [], Some, None, bytes_eq, cond, filter, is_some, length, nat_lt, position}
-use Rattle.std.specs.Option.{option_or}
+use Rattle.std.specs.Prelude.{◌≡◌, ℕ, List, [], bytes_eq, filter, length, nat_lt, position}
 use Rattle.std.specs.Str.{str_to_ascii_lowercase}
+use Rattle.name_tables.specs.Firsts.{IsEven, value_in}
+use Rattle.name_tables.specs.Tables.{IsTable}
+use Rattle.name_tables.specs.declared.table.NameTable.{NameTable}
 use Rattle.prepared_tables.specs.declared.by_name.ModelNames.{ModelNames}
-use Rattle.prepared_tables.specs.declared.by_name.NameTable.{NameTable}
-use Rattle.rule_index.specs.Firsts.{IsEven, IsFresh, value_in}
 use Rattle.vrt_model.specs.Lists.{has_name}
 use Rattle.vrt_model.specs.declared.blif.BlifModel.{BlifModel}
 
@@ -17,19 +17,8 @@ low_name m = str_to_ascii_lowercase m.name
 
 -- ---- one table
 
--- there is no model
-pub record IsEmpty (t : NameTable) : Type 0 where
-  pub firsts : IsFresh t.firsts
-  pub again : t.again ≡ []
-
--- a model more under a name, behind those that are there
-pub record Notes (name : List ℕ) (model : ℕ) (old new : NameTable) : Type 0 where
-  pub even : IsEven new.firsts
-  pub first : (other : List ℕ) → value_in new.firsts other ≡ option_or (value_in old.firsts other) (cond (bytes_eq name other) (Some model) None)
-  pub again : (other : List ℕ) → has_name new.again other ≡ (has_name old.again other || (bytes_eq name other && is_some (value_in old.firsts other)))
-
 -- under each name the place of the first model that has it, and whether a second one has it
-pub record AreNoted (key : BlifModel → List ℕ) (models : List BlifModel) (t : NameTable) : Type 0 where
+pub record AreNoted (key : BlifModel → List ℕ) (models : List BlifModel) (t : NameTable ℕ) : Type 0 where
   pub even : IsEven t.firsts
   pub first : (name : List ℕ) → value_in t.firsts name ≡ position (λ (m : BlifModel). bytes_eq (key m) name) models
   pub again : (name : List ℕ) → has_name t.again name ≡ nat_lt 1 (length (filter (λ (m : BlifModel). bytes_eq (key m) name) models))
@@ -37,8 +26,8 @@ pub record AreNoted (key : BlifModel → List ℕ) (models : List BlifModel) (t 
 -- ---- both tables
 
 pub record HasNoModels (names : ModelNames) : Type 0 where
-  pub exact : IsEmpty names.exact
-  pub lowered : IsEmpty names.lowered
+  pub exact : IsTable [] names.exact
+  pub lowered : IsTable [] names.lowered
 
 -- the models by their names as they stand, and in lower case
 pub record AreModelNames (models : List BlifModel) (names : ModelNames) : Type 0 where

@@ -5,6 +5,6 @@ mod by_name;
 mod pairs;
 mod prepared;
 
-pub use by_name::{ModelNames, NameTable, model_names};
+pub use by_name::{ModelNames, model_names};
 pub use pairs::{is_skipped_with, model_of_with};
 pub use prepared::{Prepared, prepare};

@@ -8,9 +8,9 @@ use Rattle.std.proofs.lemmas.List.Quantifiers.{position-Some}
 use Rattle.std.proofs.lemmas.Option.{slice_get-get_or, unwrap_or-slice_get}
 use Rattle.std.proofs.lemmas.Slice.Eq.{bytes_eq-Decides}
 use Rattle.names.specs.Names.{with_name}
-use Rattle.rule_index.proofs.FirstNotes.{first_is, noted_new}
+use Rattle.name_tables.proofs.FirstNotes.{first_is, noted_new}
 use Rattle.rule_index.proofs.NameLaws.{no_place, one_place}
-use Rattle.rule_index.specs.Firsts.{first_in}
+use Rattle.name_tables.specs.Firsts.{first_in}
 
 -- what stands under a name
 abbrev pub under : List (List ℕ) → List (List ℕ) → List ℕ → List ℕ

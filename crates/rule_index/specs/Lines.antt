@@ -1,6 +1,6 @@
 -- The places of rules by the cells that they are of.
 use Rattle.std.specs.Prelude.{◌≡◌, ℕ, List, [], map, filter, length, Some, slice_get, unwrap_or, bytes_eq}
-use Rattle.rule_index.specs.Firsts.{first_in}
+use Rattle.name_tables.specs.Firsts.{first_in}
 use Rattle.rule_index.specs.declared.by_cell.ByCell.{ByCell}
 use Rattle.rule_index.specs.declared.lines.ChargeLines.{ChargeLines}
 use Rattle.rule_index.specs.declared.lines.DeviceLines.{DeviceLines}

@@ -1,9 +1,9 @@
 -- What a netlist and its rules say of names, and tables that say the same.
 use Rattle.std.specs.Prelude.{◌≡◌, ℕ, List, Bool, false, Option, Some, None, option_map, find, position, cond, bytes_eq, codes}
 use Rattle.std.specs.Option.{option_or}
-use Rattle.rule_index.specs.Firsts.{IsFresh, value_in}
+use Rattle.name_tables.specs.Firsts.{IsFresh, value_in}
 use Rattle.rule_index.specs.Lines.{AreBlank, AreLines}
-use Rattle.rule_index.specs.declared.firsts.FirstValues.{FirstValues}
+use Rattle.name_tables.specs.declared.firsts.FirstValues.{FirstValues}
 use Rattle.rule_index.specs.declared.index.RuleIndex.{RuleIndex}
 use Rattle.rule_index.specs.declared.models.Declared.{Declared}
 use Rattle.rule_index.specs.declared.models.ModelTable.{ModelTable}

@@ -1,10 +1,10 @@
 //! The numbers of cells by their names.
 
 ghost use Rattle.std.specs.Prelude.{◌≡◌, ℕ, List, OnOk};
-ghost use Rattle.rule_index.specs.Firsts.{IsFresh, value_in};
+ghost use Rattle.name_tables.specs.Firsts.{IsFresh, value_in};
 ghost use Rattle.rule_index.specs.Tables.{cell_numbered};
 
-use crate::firsts::FirstValues;
+use name_tables::FirstValues;
 use vrt_model::{Cell, NoMemory};
 
 /// Notes the numbers of cells, in a table with nothing noted.

@@ -4,10 +4,10 @@ ghost use Rattle.std.specs.Prelude.{OnOk, IfOk};
 ghost use Rattle.rule_index.specs.Tables.{AreIndexed, IsFreshIndex};
 
 use crate::cells::note_cells;
-use crate::firsts::FirstValues;
 use crate::lines::RuleLines;
 use crate::models::ModelTable;
 use crate::supplies::note_supplies;
+use name_tables::FirstValues;
 use std::alloc::Global;
 use vrt_model::{Design, NoMemory, Rules};
 

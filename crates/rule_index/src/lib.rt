@@ -3,7 +3,6 @@
 
 mod by_cell;
 mod cells;
-mod firsts;
 mod index;
 mod lines;
 mod lower_names;
@@ -12,10 +11,10 @@ mod of_cell;
 mod supplies;
 
 pub use by_cell::ByCell;
-pub use firsts::FirstValues;
 pub use index::{RuleIndex, index_of};
 pub use lines::{ChargeLines, DeviceLines, PortLines, RuleLines};
 pub use lower_names::lowered_name;
 pub use models::{Declared, ModelTable};
+pub use name_tables::FirstValues;
 pub use of_cell::OfCell;
-pub use supplies::supply;
+pub use supplies::{note_supplies, supply};

@@ -1,10 +1,10 @@
 //! What `device` rules and `.model` cards say of device models.
 
 ghost use Rattle.std.specs.Prelude.{◌≡◌, ℕ, List, OnOk};
-ghost use Rattle.rule_index.specs.Firsts.{IsFresh, value_in};
+ghost use Rattle.name_tables.specs.Firsts.{IsFresh, value_in};
 ghost use Rattle.rule_index.specs.Tables.{AreFreshModels, AreModels, card_kind, declared_device, kind_in, level_in};
 
-use crate::firsts::FirstValues;
+use name_tables::FirstValues;
 use std::alloc::Global;
 use vrt_model::{Design, DeviceRule, Kind, ModelCard, NoMemory, Rules};
 

@@ -1,17 +1,14 @@
 //! What rules say of supplies.
 
 ghost use Rattle.std.specs.Prelude.{◌≡◌, ℕ, List, OnOk};
-ghost use Rattle.rule_index.specs.Firsts.{IsFresh, value_in};
+ghost use Rattle.name_tables.specs.Firsts.{IsFresh, value_in};
 ghost use Rattle.rule_index.specs.Tables.{declared_supply, supply_in};
 
-use crate::firsts::FirstValues;
+use name_tables::FirstValues;
 use vrt_model::{NoMemory, SupplyRule};
 
 /// Notes the supplies that rules declare, in a table with nothing noted.
-pub(crate) fn note_supplies(
-    table: &mut FirstValues<bool>,
-    rules: &[SupplyRule],
-) -> Result<(), NoMemory>
+pub fn note_supplies(table: &mut FirstValues<bool>, rules: &[SupplyRule]) -> Result<(), NoMemory>
     requires { IsFresh table.old }
     ensures { OnOk result ((name : List ℕ) → value_in table.new name ≡ declared_supply rules.now name) }
 {

@@ -1,5 +1,6 @@
 use Rattle.std.proofs.Common.{take}
-use Rattle.cells_below.specs.Met.{HasMet, numbers_on}
+use Rattle.cells_below.specs.Met.{numbers_on}
+use Rattle.nesting.specs.Reached.{HasMet}
 use Rattle.cells_below.proofs.marks.meet_cards.Given as goal
 
 -- the cells on the cards so far are met

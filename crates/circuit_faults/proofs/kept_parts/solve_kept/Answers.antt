@@ -7,6 +7,7 @@ use Rattle.circuit_faults.proofs.UndrivenKept.{undriven_reached, undriven_spends
 use Rattle.circuit_faults.proofs.kept_parts.solve_kept.Goals as goal
 use Rattle.path_fixpoint.specs.declared.words.NetWords.{NetWords}
 use Rattle.path_fixpoint.proofs.SourceLevels.{words_back}
+use Rattle.path_fixpoint.proofs.SpendingLaws.{part_gates_within, part_roots_within}
 use Rattle.path_fixpoint.specs.Solved.{HasRootSpans, TellsReach, network_at}
 use Rattle.bdd_core.specs.Diagram.{Valuation}
 use Rattle.std.proofs.Common.{subst, sym}
@@ -42,7 +43,15 @@ returns-in-Err-clause-writes c =
     kept_solved c.args.circuit.now c.args.spans c.args.part.now c.words_of-out.result c.args.store.now c.solve_part.new.store c.words_of-out.ensures (c.requires.spans.room c.args.part.now (0, refl)) c.solve_part.ensures.writes
 
 pub returns-in-Err-clause-few : goal.returns-in-Err-clause-few
-returns-in-Err-clause-few c one u gates roots = record { counts = (c.in-Err.ensures.few one u gates roots).counts; within = tt }
+returns-in-Err-clause-few c one u gates roots =
+    let circuit = c.args.circuit.now in
+    let part = c.args.part.now in
+    let spans = c.args.spans in
+    let old = c.args.store.now in
+    let has = kept_root_spans circuit (part ∷ []) spans old c.requires.spans part (0, refl) c.words_of-out.result c.words_of-out.ensures in record {
+      counts = (c.in-Err.ensures.few one u (part_gates_within u circuit part c.requires.circuit spans.gates old has.spans.gates_len gates) (part_roots_within u circuit part c.requires.part spans.roots has.roots_len old roots)).counts;
+      within = tt;
+    }
 
 -- ---- the two copies
 
@@ -127,10 +136,11 @@ returns-clause-few c one u gates roots =
     let mid = c.solve_part.new.store in
     let next = c.copy_reach.new.store in
     let new = c.copy_reach-2.new.store in
-    let len = (kept_root_spans c.args.circuit.now (c.args.part.now ∷ []) c.args.spans c.args.store.now c.requires.spans c.args.part.now (0, refl) c.words_of-out.result c.words_of-out.ensures).spans.out_len in
+    let has = kept_root_spans circuit (part ∷ []) spans old c.requires.spans part (0, refl) out c.words_of-out.ensures in
+    let len = has.spans.out_len in
     let apart = reach_apart c.args.circuit.now (c.args.part.now ∷ []) c.args.spans c.args.store.now c.requires.spans c.args.part.now (0, refl) false c.words_of-out.result c.words_of-out.ensures in
     let in_range = inside_range circuit part c.requires.part in
-    let solved = c.in-Ok.ensures.few one u gates roots in
+    let solved = c.in-Ok.ensures.few one u (part_gates_within u circuit part c.requires.circuit spans.gates old has.spans.gates_len gates) (part_roots_within u circuit part c.requires.part spans.roots has.roots_len old roots) in
     record {
       counts = counts_ok u (solving_operations circuit part) old new _
           (counted_copies circuit part spans out old mid next new c.requires.spans len apart in_range c.in-Ok.ensures.writes c.copy_reach.ensures c.copy_reach-2.ensures u (solving_operations circuit part) solved.counts.added);

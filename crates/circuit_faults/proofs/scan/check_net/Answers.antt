@@ -1,37 +1,83 @@
-use Rattle.std.proofs.Common.{◌≡◌, ℕ, List, ap, arith, false, length, true}
-use Rattle.bdd_ops.proofs.CountingLaws.{counts_value}
-use Rattle.circuit_faults.proofs.CountLaws.{kept_within, reach_within, span_within}
+use Rattle.std.proofs.Common.{◌≡◌, ℕ, List, Err, ap, arith, length, true, ◌∙◌}
+use Rattle.node_pool.specs.declared.region.Node.{Node}
+use Rattle.bdd_core.proofs.Frames.{adds_words, nodes_then, word_here}
+use Rattle.bdd_core.specs.Diagram.{meaning}
+use Rattle.bdd_core.specs.Store.{Diagrams}
+use Rattle.bdd_core.specs.Words.{word_at}
+use Rattle.bdd_ops.proofs.CountingLaws.{counted_then, counts_more, counts_then, counts_value}
+use Rattle.circuit_faults.proofs.CountLaws.{span_within}
+use Rattle.circuit_faults.proofs.WayLaws.{few_added, reach_added, ready_added}
+use Rattle.circuit_faults.specs.Small.{bit_operations, fault_operations, scan_operations}
 use Rattle.path_fixpoint.proofs.SpendingLaws.{rewrites_word, spends_refused, spends_rewrites}
-use Rattle.bdd_core.proofs.Frames.{adds_words}
 use Rattle.circuit_faults.proofs.scan.check_net.Goals as goal
 
+pub bit_at-requires-clause-ready : goal.bit_at-requires-clause-ready
+bit_at-requires-clause-ready c =
+    ready_added c.args.out c.args.store.now c.fault_at.new.store c.in-Ok.ensures.adds c.requires.out.1 c.args.way c.args.place c.requires.place.1 c.requires.ready
+
 pub returns-in-Err-clause-few : goal.returns-in-Err-clause-few
-returns-in-Err-clause-few c u care gates out =
+returns-in-Err-clause-few c u care gates out few =
     let old = c.args.store.now in
-    let zero = reach_within u old c.args.out false c.args.place c.reached-zero.result c.reached-zero.ensures.is c.requires.place.1 out in
-    let one = reach_within u old c.args.out true c.args.place c.reached-one.result c.reached-one.ensures.is c.requires.place.1 out in
-    spends_refused u c.args.gates 4 old c.net_fault.new.store c.in-Err.spent (c.in-Err.ensures.counts u care zero one)
+    spends_refused u c.args.gates (scan_operations c.args.way) old c.fault_at.new.store c.in-Err.spent
+    (counts_more u (fault_operations c.args.way) (scan_operations c.args.way) old c.fault_at.new.store (Err c.in-Err.spent) (omega arith) (c.in-Err.ensures.counts u care out few))
 
 pub returns-in-Some-clause-few : goal.returns-in-Some-clause-few
-returns-in-Some-clause-few c u care gates out =
+returns-in-Some-clause-few c u care gates out few =
     let old = c.args.store.now in
-    let mid = c.net_fault.new.store in
-    let zero = reach_within u old c.args.out false c.args.place c.reached-zero.result c.reached-zero.ensures.is c.requires.place.1 out in
-    let one = reach_within u old c.args.out true c.args.place c.reached-one.result c.reached-one.ensures.is c.requires.place.1 out in
+    let mid = c.fault_at.new.store in
     record {
-      counts = counts_value u 4 old mid c.in-Ok.found _ (c.in-Ok.ensures.counts u care zero one);
+      counts = counts_more u (fault_operations c.args.way) (scan_operations c.args.way) old mid _ (omega arith) (counts_value u (fault_operations c.args.way) old mid c.in-Ok.found _ (c.in-Ok.ensures.counts u care out few));
       within = span_within u c.args.gates old mid c.in-Ok.ensures.adds c.requires.gates.1 gates;
     }
 
-pub returns-clause-few : goal.returns-clause-few
-returns-clause-few c u care gates out =
+pub returns-then-not-seen-clause-few : goal.returns-then-not-seen-clause-few
+returns-then-not-seen-clause-few c u care gates out few =
     let old = c.args.store.now in
-    let mid = c.net_fault.new.store in
+    let mid = c.fault_at.new.store in
+    record {
+      counts = counts_more u (fault_operations c.args.way) (scan_operations c.args.way) old mid _ (omega arith) (counts_value u (fault_operations c.args.way) old mid c.in-Ok.found _ (c.in-Ok.ensures.counts u care out few));
+      within = span_within u c.args.gates old mid c.in-Ok.ensures.adds c.requires.gates.1 gates;
+    }
+
+pub returns-in-Err-bit_at-clause-few : goal.returns-in-Err-bit_at-clause-few
+returns-in-Err-bit_at-clause-few c u care gates out few =
+    let old = c.args.store.now in
+    let mid = c.fault_at.new.store in
+    let new = c.bit_at.new.store in
+    let out_mid = span_within u c.args.out.span old mid c.in-Ok.ensures.adds c.requires.out.1 out in
+    let few_mid = few_added c.args.out old mid c.in-Ok.ensures.adds c.requires.out.1 u c.args.way c.args.place c.requires.ready few in
+    spends_refused u c.args.gates (scan_operations c.args.way) old new c.in-Err-bit_at.spent
+    (counts_then u (fault_operations c.args.way) (bit_operations c.args.way) old mid new (Err c.in-Err-bit_at.spent) (c.in-Ok.ensures.counts u care out few).added (c.in-Err-bit_at.ensures.finds u out_mid few_mid).counts)
+
+pub returns-clause-few : goal.returns-clause-few
+returns-clause-few c u care gates out few =
+    let old = c.args.store.now in
+    let mid = c.fault_at.new.store in
+    let next = c.bit_at.new.store in
     let new = c.write.new.self in
-    let adds = c.in-Ok.ensures.adds in
-    let zero = reach_within u old c.args.out false c.args.place c.reached-zero.result c.reached-zero.ensures.is c.requires.place.1 out in
-    let one = reach_within u old c.args.out true c.args.place c.reached-one.result c.reached-one.ensures.is c.requires.place.1 out in
-    let words : length mid.words ≡ length old.words = ap (λ (ws : List ℕ). length ws) (adds_words old mid old.words adds) in
-    spends_rewrites u c.args.gates 4 old mid new _ (c.in-Ok.ensures.counts u care zero one).added
-    (rewrites_word u c.args.gates mid new c.args.net.0 c.reached-one.result.0 c.write.ensures c.requires.place.0 (omega (arith, c.requires.gates.0.1, words))
-    (kept_within u old mid c.reached-one.result adds c.reached-one.ensures.live one) (span_within u c.args.gates old mid adds c.requires.gates.1 gates))
+    let first = c.in-Ok.ensures.adds in
+    let second = c.in-Ok-bit_at.ensures.gives.adds in
+    let adds = nodes_then old mid next first second in
+    let out_mid = span_within u c.args.out.span old mid first c.requires.out.1 out in
+    let few_mid = few_added c.args.out old mid first c.requires.out.1 u c.args.way c.args.place c.requires.ready few in
+    let found = c.in-Ok-bit_at.ensures.finds u out_mid few_mid in
+    let words : length next.words ≡ length old.words = ap (λ (ws : List ℕ). length ws) (adds_words old next old.words adds) in
+    spends_rewrites u c.args.gates (scan_operations c.args.way) old next new _ (counted_then u (fault_operations c.args.way) (bit_operations c.args.way) old mid next (c.in-Ok.ensures.counts u care out few).added found.counts.added)
+    (rewrites_word u c.args.gates next new c.args.net.0 c.in-Ok-bit_at.bit.0 c.write.ensures c.requires.place.0 (omega (arith, c.requires.gates.0.1, words))
+    found.within (span_within u c.args.gates old next adds c.requires.gates.1 gates))
+
+pub returns-clause-bit : goal.returns-clause-bit
+returns-clause-bit c e seen v =
+    let old = c.args.store.now in
+    let mid = c.fault_at.new.store in
+    let next = c.bit_at.new.store in
+    let new = c.write.new.self in
+    let gates = c.args.gates in
+    let bit = c.in-Ok-bit_at.bit in
+    let adds = nodes_then old mid next c.in-Ok.ensures.adds c.in-Ok-bit_at.ensures.gives.adds in
+    let words : length next.words ≡ length old.words = ap (λ (ws : List ℕ). length ws) (adds_words old next old.words adds) in
+    let word : word_at new gates c.args.net.0 ≡ bit.0 = word_here gates next new c.args.net.0 bit.0 c.write.ensures c.requires.place.0 (omega (arith, c.requires.gates.0.1, words)) in
+    ap (λ (k : ℕ). meaning new.nodes k v) word
+    ∙ ap (λ (ns : List Node). meaning ns bit.0 v) (ap (λ (d : Diagrams). d.nodes) c.write.ensures)
+    ∙ c.in-Ok-bit_at.ensures.gives.ok.same v
+    ∙ reach_added c.args.out old mid c.in-Ok.ensures.adds c.requires.out.1 c.args.way true c.args.place c.requires.place.1 c.requires.ready v

@@ -4,9 +4,9 @@ use Rattle.vrt_model.specs.declared.rules.ClockportRule.{ClockportRule}
 use Rattle.vrt_model.specs.declared.rules.PairRule.{PairRule}
 use Rattle.vrt_model.specs.declared.rules.PortRule.{PortRule}
 use Rattle.vrt_model.specs.declared.rules.StrengthRule.{StrengthRule}
-use Rattle.hierarchy.specs.Names.{earliest, missing_by, missing_cell}
+use Rattle.hierarchy.specs.Names.{earliest, line_of, missing_by, missing_cell}
 use Rattle.hierarchy.specs.declared.sets.Kind.{Kind}
-use Rattle.hierarchy.proofs.MissingLaws.{one_joined}
+use Rattle.line_laws.proofs.LineLaws.{one_joined}
 use Rattle.hierarchy.proofs.missing_names.first_name.Goals as goal
 
 pub returns : goal.returns
@@ -21,6 +21,6 @@ returns c =
     let p1 = c.clockport_names.ensures ∙ ap (λ rs. earliest (clockports rs)) c.as_slice-2.ensures in
     let p2 = c.pair_names.ensures ∙ ap (λ rs. earliest (pairs rs)) c.as_slice-3.ensures in
     let p3 = c.port_names.ensures ∙ ap (λ rs. earliest (ports rs)) c.as_slice-4.ensures in
-    let q1 = one_joined _ _ _ (strengths rules.strengths) (clockports rules.clockports) p0 p1 c.earlier-first.ensures in
-    let q2 = one_joined _ _ _ (strengths rules.strengths ++ clockports rules.clockports) (pairs rules.pairs) q1 p2 c.earlier-first-2.ensures in
-    one_joined _ _ _ (strengths rules.strengths ++ clockports rules.clockports ++ pairs rules.pairs) (ports rules.ports) q2 p3 c.earlier.ensures
+    let q1 = one_joined line_of _ _ _ (strengths rules.strengths) (clockports rules.clockports) p0 p1 c.earlier-first.ensures in
+    let q2 = one_joined line_of _ _ _ (strengths rules.strengths ++ clockports rules.clockports) (pairs rules.pairs) q1 p2 c.earlier-first-2.ensures in
+    one_joined line_of _ _ _ (strengths rules.strengths ++ clockports rules.clockports ++ pairs rules.pairs) (ports rules.ports) q2 p3 c.earlier.ensures

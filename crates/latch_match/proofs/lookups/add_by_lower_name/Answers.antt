@@ -3,7 +3,7 @@ use Rattle.std.specs.Str.{str_to_ascii_lowercase}
 use Rattle.std.proofs.lemmas.Option.{slice_get-get_or}
 use Rattle.vrt_model.specs.Elements.{signal_name}
 use Rattle.latch_match.specs.Looked.{by_lower_name}
-use Rattle.latch_match.proofs.TableLaws.{more_named}
+use Rattle.name_tables.proofs.TableLaws.{more_named}
 use Rattle.latch_match.proofs.lookups.add_by_lower_name.Goals as goal
 
 pub loop-signal-preserved : goal.loop-signal-preserved

@@ -1,6 +1,6 @@
 use Rattle.std.proofs.Common.{map, take}
 use Rattle.latch_match.specs.Looked.{by_lower_name}
-use Rattle.latch_match.specs.Tables.{IsTable}
+use Rattle.name_tables.specs.Tables.{IsTable}
 use Rattle.latch_match.proofs.lookups.add_by_lower_name.Given as goal
 
 -- the signals so far

@@ -1,8 +1,8 @@
 use Rattle.std.proofs.Common.{ap, arith, get_or}
 use Rattle.std.proofs.lemmas.Option.{slice_get-get_or}
 use Rattle.latch_match.specs.Looked.{by_name}
-use Rattle.latch_match.specs.Tables.{named}
-use Rattle.latch_match.proofs.TableLaws.{more_named}
+use Rattle.name_tables.specs.Tables.{named}
+use Rattle.name_tables.proofs.TableLaws.{more_named}
 use Rattle.latch_match.proofs.lookups.add_by_name.Goals as goal
 
 pub loop-signal-preserved : goal.loop-signal-preserved

@@ -1,7 +1,7 @@
 use Rattle.std.proofs.Common.{ap}
 use Rattle.std.specs.Prelude.{slice_get}
 use Rattle.vrt_model.specs.declared.rules.ClockportRule.{ClockportRule}
-use Rattle.latch_match.specs.Tables.{named}
+use Rattle.name_tables.specs.Tables.{named}
 use Rattle.latch_match.proofs.TableLaws.{found}
 use Rattle.latch_match.proofs.lookups.add_clock.Goals as goal
 

@@ -1,7 +1,7 @@
 use Rattle.std.proofs.Common.{take}
 use Rattle.std.specs.Prelude.{filter_map}
 use Rattle.latch_match.specs.Looked.{clock_at}
-use Rattle.latch_match.specs.Tables.{IsTable}
+use Rattle.name_tables.specs.Tables.{IsTable}
 use Rattle.latch_match.proofs.lookups.add_clocks.Given as goal
 
 -- the rules at the places so far

@@ -1,6 +1,6 @@
 use Rattle.std.proofs.Common.{ap, subst, ◌∙◌, ◌++◌, ◌∷◌, [], List, ℕ}
 use Rattle.std.specs.Str.{str_to_ascii_lowercase}
-use Rattle.latch_match.specs.Tables.{IsTable, named}
+use Rattle.name_tables.specs.Tables.{IsTable, named}
 use Rattle.latch_match.proofs.lookups.add_lowered.Goals as goal
 
 pub returns : goal.returns

@@ -9,6 +9,7 @@ use Rattle.output_levels.proofs.AlwaysLaws.{written_care}
 use Rattle.output_levels.proofs.PartLevelLaws.{in_added, in_front, in_none, in_then, none_told, part_range, part_spans, part_told}
 use Rattle.output_levels.specs.PartLevels.{level_operations}
 use Rattle.std.proofs.lemmas.Result.{IfOk-weaker}
+use Rattle.path_fixpoint.proofs.SpendingLaws.{part_gates_within}
 use Rattle.path_fixpoint.specs.Strengths.{HasSpans, net_words}
 use Rattle.vrt_model.specs.Levels.{source_level}
 use Rattle.vrt_model.specs.Lists.{At, mark_at}
@@ -64,7 +65,7 @@ returns-in-Err-clause-writes c =
 pub returns-in-Err-clause-few : goal.returns-in-Err-clause-few
 returns-in-Err-clause-few c u care gates =
     let size = source_level c.args.circuit.now * (length c.args.part.now.nets * (length c.args.part.now.devices * 4)) in
-    counts_more u size (level_operations c.args.circuit.now c.args.part.now) c.args.store.now c.strengths.new.store (Err c.in-Err.spent) (omega arith) (c.in-Err.ensures.few u gates).counts
+    counts_more u size (level_operations c.args.circuit.now c.args.part.now) c.args.store.now c.strengths.new.store (Err c.in-Err.spent) (omega arith) (c.in-Err.ensures.few u (part_gates_within u c.args.circuit.now c.args.part.now c.requires.circuit c.args.gates c.args.store.now c.requires.spans.gates_len gates)).counts
 
 pub returns-clause-writes : goal.returns-clause-writes
 returns-clause-writes c =
@@ -84,7 +85,7 @@ returns-clause-gives c =
 pub returns-clause-few : goal.returns-clause-few
 returns-clause-few c u care gates =
     let size = source_level c.args.circuit.now * (length c.args.part.now.nets * (length c.args.part.now.devices * 4)) in
-    let spends = c.in-Ok.ensures.few u gates in
+    let spends = c.in-Ok.ensures.few u (part_gates_within u c.args.circuit.now c.args.part.now c.requires.circuit c.args.gates c.args.store.now c.requires.spans.gates_len gates) in
     counts_then u size ((source_level c.args.circuit.now + 1) * length c.args.part.now.nets) c.args.store.now c.strengths.new.store c.judge_part.new.store c.judge_part.result spends.counts.added
     (subst (λ (l : ℕ). Counts u ((l + 1) * length c.args.part.now.nets) c.strengths.new.store c.judge_part.new.store c.judge_part.result) (ap (λ (w : NetWords). w.source) c.words_of-words.ensures)
     (c.judge_part.ensures.few u (written_care u c.words_of-words.result.span c.args.store.now c.strengths.new.store c.args.care c.strengths.ensures.writes c.requires.care care) spends.within))

@@ -1,7 +1,7 @@
 use Rattle.std.proofs.Common.{ℕ, ◌+◌, ◌-◌, ◌*◌, ◌≤◌, length, Ok, Err, arith, sym, subst, inl, inr}
 use Rattle.std.proofs.Math.Nat.{mul-le-mul_right}
 use Rattle.bdd_ops.proofs.CountingLaws.{counted_more, counted_then, counts_more, counts_ok}
-use Rattle.path_fixpoint.proofs.SpendingLaws.{one_more, span_beside, spends_behind, spends_more, times_most}
+use Rattle.path_fixpoint.proofs.SpendingLaws.{gates_beside, one_more, spends_behind, spends_more, times_most}
 use Rattle.std.proofs.lemmas.Bool.{cases_eq}
 use Rattle.path_fixpoint.specs.Strengths.{HasLevel, HasWords}
 use Rattle.bdd_core.proofs.Frames.{writes_then}
@@ -38,7 +38,7 @@ loop-done-preserved c =
       few = λ u gates_in all.
           let size = length part.nets * (length part.devices * 4) in
           let q = i.few u gates_in all in
-          let f = c.in-Ok.ensures.few u (span_beside u out.span gates first old i.writes c.requires.words.apart c.requires.words.gates_live gates_in) q.1 in
+          let f = c.in-Ok.ensures.few u (gates_beside u c.args.circuit.now c.args.part.now c.requires.part.0 out.span gates first old c.requires.words.gates_len i.writes c.requires.words.apart c.requires.words.gates_live gates_in) q.1 in
           (counted_more u (done * size + size) ((done + 1) * size) first new (one_more done size) (counted_then u (done * size) size first old new q.0 f.counts.added), f.within);
     }
 
@@ -57,7 +57,7 @@ returns-in-Err-clause-few c u gates_in all =
     let i = c.loop-done.invariant in
     let size = length part.nets * (length part.devices * 4) in
     let q = i.few u gates_in all in
-    let f = c.in-Err.ensures.few u (span_beside u out.span gates first old i.writes c.requires.words.apart c.requires.words.gates_live gates_in) q.1 in
+    let f = c.in-Err.ensures.few u (gates_beside u c.args.circuit.now c.args.part.now c.requires.part.0 out.span gates first old c.requires.words.gates_len i.writes c.requires.words.apart c.requires.words.gates_live gates_in) q.1 in
     spends_more u out.span (done * size + size) (source_level c.args.circuit.now * size) first new (Err c.in-Err.spent) (times_most done (source_level c.args.circuit.now) size (omega (arith, c.loop-done-test.true, c.requires.words.source)))
     (spends_behind u out.span (done * size) size first old new (Err c.in-Err.spent) q.0 f)
 

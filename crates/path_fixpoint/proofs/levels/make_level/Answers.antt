@@ -3,7 +3,7 @@ use Rattle.bdd_core.proofs.Results.{if_ok_more}
 use Rattle.bdd_core.proofs.Frames.{writes_then}
 use Rattle.bdd_ops.proofs.CountingLaws.{counts_more, counts_ok}
 use Rattle.path_fixpoint.proofs.RoundLaws.{stands_kept, words_kept}
-use Rattle.path_fixpoint.proofs.SpendingLaws.{span_beside, spends_behind, spends_more}
+use Rattle.path_fixpoint.proofs.SpendingLaws.{gates_beside, spends_behind, spends_more}
 use Rattle.path_fixpoint.proofs.Unused.{level_above}
 use Rattle.path_fixpoint.proofs.levels.make_level.Goals as goal
 
@@ -49,4 +49,4 @@ returns-clause-few c u gates all =
     let opened = c.open.ensures.few u all in
     spends_more u out.span (0 + size) size first c.settle.new.store c.settle.result (omega arith)
     (spends_behind u out.span 0 size first mid c.settle.new.store c.settle.result opened.counted
-    (c.settle.ensures.few u (span_beside u out.span c.args.gates first mid c.open.ensures.writes c.requires.words.apart c.requires.words.gates_live gates) opened.within))
+    (c.settle.ensures.few u (gates_beside u c.args.circuit.now c.args.part.now c.requires.part.0 out.span c.args.gates first mid c.requires.words.gates_len c.open.ensures.writes c.requires.words.apart c.requires.words.gates_live gates) opened.within))

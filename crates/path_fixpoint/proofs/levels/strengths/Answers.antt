@@ -1,6 +1,6 @@
 use Rattle.std.proofs.Common.{◌+◌, ◌*◌, length, arith}
 use Rattle.bdd_core.proofs.Results.{if_ok_more}
-use Rattle.path_fixpoint.proofs.SpendingLaws.{span_beside, spends_behind, spends_more}
+use Rattle.path_fixpoint.proofs.SpendingLaws.{gates_beside, spends_behind, spends_more}
 use Rattle.bdd_core.proofs.Frames.{writes_then}
 use Rattle.path_fixpoint.proofs.RoundLaws.{stands_from, tells_from, words_from}
 use Rattle.path_fixpoint.proofs.levels.strengths.Goals as goal
@@ -28,4 +28,4 @@ returns-clause-few c u gates =
     let cleared = c.clear.ensures.few u in
     spends_more u out.span (0 + size) size first c.levels.new.store c.levels.result (omega arith)
     (spends_behind u out.span 0 size first mid c.levels.new.store c.levels.result cleared.counted
-    (c.levels.ensures.few u (span_beside u out.span c.args.gates first mid c.clear.ensures.writes c.requires.spans.apart c.requires.spans.gates_live gates) cleared.within))
+    (c.levels.ensures.few u (gates_beside u c.args.circuit.now c.args.part.now c.requires.circuit out.span c.args.gates first mid c.requires.spans.gates_len c.clear.ensures.writes c.requires.spans.apart c.requires.spans.gates_live gates) cleared.within))

@@ -1,6 +1,6 @@
 use Rattle.std.proofs.Common.{◌≡◌, ◌+◌, ◌*◌, ◌≤◌, Ok, Err, length, arith, ◌∙◌}
 use Rattle.bdd_ops.proofs.CountingLaws.{counted_more, counted_then, counts_more, counts_ok}
-use Rattle.path_fixpoint.proofs.SpendingLaws.{span_beside, spends_behind, spends_err, spends_more, one_more, times_most}
+use Rattle.path_fixpoint.proofs.SpendingLaws.{gates_beside, one_more, roots_beside, spends_behind, spends_err, spends_more, times_most}
 use Rattle.vrt_model.specs.Lists.{Among}
 use Rattle.vrt_model.specs.declared.circuit.Device.{Device}
 use Rattle.path_fixpoint.specs.Parts.{part_devices}
@@ -42,7 +42,7 @@ loop-step-preserved c =
           c.loop-step.changed c.in-Ok.grew first old new c.requires.words i.writes i.apart (visited_more circuit part c.args.direction at device c.visited-device.ensures) i.spreads c.in-Ok.ensures.spreads;
       few = λ u gates roots all.
           let q = i.few u gates roots all in
-          let f = c.in-Ok.ensures.few u (span_beside u out.span c.args.gates first old i.writes c.requires.words.words.apart c.requires.words.words.gates_live gates) (span_beside u out.span c.args.roots first old i.writes c.requires.words.roots_apart c.requires.words.roots_live roots) q.1 in
+          let f = c.in-Ok.ensures.few u (gates_beside u c.args.circuit.now c.args.part.now c.requires.part.0 out.span c.args.gates first old c.requires.words.words.gates_len i.writes c.requires.words.words.apart c.requires.words.words.gates_live gates) (roots_beside u c.args.circuit.now c.args.part.now c.requires.part.1 c.args.roots c.requires.words.roots_len out.span first old i.writes c.requires.words.roots_apart c.requires.words.roots_live roots) q.1 in
           let each = 4 * out.source + 6 in
           (counted_more u (at * each + each) ((at + 1) * each) first new (one_more at each) (counted_then u (at * each) each first old new q.0 f.counts.added), f.within);
     }
@@ -64,7 +64,7 @@ returns-in-Err-clause-few c u gates roots all =
     let new = c.visit.new.store in
     let i = c.loop-step.invariant in
     let q = i.few u gates roots all in
-    let f = c.in-Err.ensures.few u (span_beside u out.span c.args.gates first old i.writes c.requires.words.words.apart c.requires.words.words.gates_live gates) (span_beside u out.span c.args.roots first old i.writes c.requires.words.roots_apart c.requires.words.roots_live roots) q.1 in
+    let f = c.in-Err.ensures.few u (gates_beside u c.args.circuit.now c.args.part.now c.requires.part.0 out.span c.args.gates first old c.requires.words.words.gates_len i.writes c.requires.words.words.apart c.requires.words.words.gates_live gates) (roots_beside u c.args.circuit.now c.args.part.now c.requires.part.1 c.args.roots c.requires.words.roots_len out.span first old i.writes c.requires.words.roots_apart c.requires.words.roots_live roots) q.1 in
     let each = 4 * out.source + 6 in
     spends_more u out.span (at * each + each) (length part.devices * each) first new (Err c.in-Err.spent)
     (times_most at (length part.devices) each (omega (arith, c.len-step-end.ensures, c.loop-step-test.true)))

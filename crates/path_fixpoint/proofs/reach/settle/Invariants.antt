@@ -1,5 +1,6 @@
 use Rattle.std.proofs.Common.{ℕ, ◌*◌, ◌≤◌, length, ◌+◌}
 use Rattle.bdd_ops.specs.Counting.{IsCounted, IsSpanWithin}
+use Rattle.path_fixpoint.specs.Spending.{AreGatesWithin, AreRootsWithin}
 use Rattle.bdd_core.specs.Diagram.{Valuation}
 use Rattle.vrt_model.specs.Lists.{Among}
 use Rattle.vrt_model.specs.Path.{Network}
@@ -24,5 +25,5 @@ invariant-rounds l = record {
       → HasReachProgress l.circuit l.part l.fn.out l.fn.value l.count l.store v w s;
   entered : 1 ≤ l.count → (v : Valuation) (w : Network) (s : ℕ → ℕ) → SolvedAt l.circuit l.part l.fn.gates l.fn.roots l.fn.out l.fn.store v w s
       → (dev : Device) → Among (part_devices l.circuit l.part) dev → HasReachPassed l.circuit l.part l.fn.out l.fn.value Outside dev l.store l.store v w s;
-  few : (u : ℕ) → IsSpanWithin u l.fn.store l.fn.gates → IsSpanWithin u l.fn.store l.fn.roots → IsSpanWithin u l.fn.store l.fn.out.span → IsCounted u (l.count * (length l.part.devices * (4 * l.fn.out.source + 6))) l.fn.store l.store × IsSpanWithin u l.store l.fn.out.span;
+  few : (u : ℕ) → AreGatesWithin u l.circuit l.part l.fn.gates l.fn.store → AreRootsWithin u l.circuit l.part l.fn.roots l.fn.store → IsSpanWithin u l.fn.store l.fn.out.span → IsCounted u (l.count * (length l.part.devices * (4 * l.fn.out.source + 6))) l.fn.store l.store × IsSpanWithin u l.store l.fn.out.span;
 }

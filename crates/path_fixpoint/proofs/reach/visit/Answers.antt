@@ -8,7 +8,7 @@ use Rattle.path_fixpoint.proofs.Places.{EndIs, place_fits}
 use Rattle.path_fixpoint.proofs.ReachLaws.{offered_kept, root_words_kept}
 use Rattle.path_fixpoint.proofs.ReachSpreading.{spreads_value_both}
 use Rattle.path_fixpoint.proofs.Spreading.{device_ranges}
-use Rattle.path_fixpoint.proofs.SpendingLaws.{finds_made, handle_kept, offered_within, span_beside, span_still, spends_behind, spends_more, spends_refused, spends_value}
+use Rattle.path_fixpoint.proofs.SpendingLaws.{finds_made, handle_kept, left_within, offered_within, right_within, roots_beside, span_still, spends_behind, spends_more, spends_refused, spends_value}
 use Rattle.path_fixpoint.proofs.Idle.{spreads_value_idle, spreads_value_off}
 use Rattle.path_fixpoint.proofs.reach.visit.Goals as goal
 
@@ -170,14 +170,14 @@ pub returns-in-Err-clause-few : goal.returns-in-Err-clause-few
 returns-in-Err-clause-few c u gates roots all =
     let d = c.args.device.now in
     let words = c.requires.words in
-    let ranges = device_ranges c.args.circuit.now c.args.part.now d c.requires.part.0 c.requires.device in
     let left_fits = place_fits c.args.part.now c.args.out c.place-left.result d.left.0 words.words.out_len c.place-left.ensures.some in
+    let left_is : EndIs c.args.part.now c.place-left.result d.left.0 = record { some = c.place-left.ensures.some; none = c.place-left.ensures.none } in
     let old = c.args.store.now in
     let f : Function = λ v. offered_end old c.args.roots c.args.out c.args.value c.args.side c.place-left.result d.left.0 v in
     spends_refused u c.args.out.span (4 * c.args.out.source + 6) old c.offers.new.store c.in-Err.spent
     (counts_more u 1 (4 * c.args.out.source + 6) old c.offers.new.store (Err c.in-Err.spent) (omega arith)
     (counts_made u old c.offers.new.store c.sound.ensures.sound.ends f (Err c.in-Err.spent) c.in-Err.ensures
-    (offered_within u old c.args.roots c.args.out c.args.value c.args.side c.place-left.result d.left.0 (omega (arith, ranges.left, words.roots_len)) left_fits roots all)))
+    (offered_within u old c.args.roots c.args.out c.args.value c.args.side c.place-left.result d.left.0 left_fits (left_within u c.args.circuit.now c.args.part.now c.requires.part.1 d c.requires.device c.args.roots old roots c.place-left.result left_is) all)))
 
 pub returns-in-Err-offers-clause-few : goal.returns-in-Err-offers-clause-few
 returns-in-Err-offers-clause-few c u gates roots all =
@@ -185,20 +185,21 @@ returns-in-Err-offers-clause-few c u gates roots all =
     let out = c.args.out in
     let d = c.args.device.now in
     let words = c.requires.words in
-    let ranges = device_ranges c.args.circuit.now part d c.requires.part.0 c.requires.device in
     let left_fits = place_fits part out c.place-left.result d.left.0 words.words.out_len c.place-left.ensures.some in
+    let left_is : EndIs part c.place-left.result d.left.0 = record { some = c.place-left.ensures.some; none = c.place-left.ensures.none } in
     let right_fits = place_fits part out c.place-right.result d.right.0 words.words.out_len c.place-right.ensures.some in
+    let right_is : EndIs part c.place-right.result d.right.0 = record { some = c.place-right.ensures.some; none = c.place-right.ensures.none } in
     let old = c.args.store.now in
     let half = c.offers.new.store in
     let a = c.offers-2.new.store in
-    let reads = offered_within u old c.args.roots out c.args.value c.args.side c.place-left.result d.left.0 (omega (arith, ranges.left, words.roots_len)) left_fits roots all in
+    let reads = offered_within u old c.args.roots out c.args.value c.args.side c.place-left.result d.left.0 left_fits (left_within u c.args.circuit.now part c.requires.part.1 d c.requires.device c.args.roots old roots c.place-left.result left_is) all in
     let f : Function = λ v. offered_end old c.args.roots out c.args.value c.args.side c.place-left.result d.left.0 v in
     let made = finds_made u old half f (Ok c.in-Ok.there) c.sound.ensures.sound.ends c.in-Ok.ensures reads in
     let first : Writes out.span old half = writes_added out.span old half words.words.out_live c.in-Ok.ensures.adds in
     let same = adds_words old half old.words c.in-Ok.ensures.adds in
     let all' = span_still u out.span out.span old half first same words.words.out_live all in
-    let roots' = span_beside u out.span c.args.roots old half first words.roots_apart words.roots_live roots in
-    let reads' = offered_within u half c.args.roots out c.args.value c.args.side c.place-right.result d.right.0 (omega (arith, ranges.right, words.roots_len)) right_fits roots' all' in
+    let roots' = roots_beside u c.args.circuit.now c.args.part.now c.requires.part.1 c.args.roots words.roots_len out.span old half first words.roots_apart words.roots_live roots in
+    let reads' = offered_within u half c.args.roots out c.args.value c.args.side c.place-right.result d.right.0 right_fits (right_within u c.args.circuit.now part c.requires.part.1 d c.requires.device c.args.roots half roots' c.place-right.result right_is) all' in
     let g : Function = λ v. offered_end half c.args.roots out c.args.value c.args.side c.place-right.result d.right.0 v in
     spends_refused u out.span (4 * out.source + 6) old a c.in-Err-offers.spent
     (counts_more u 2 (4 * out.source + 6) old a (Err c.in-Err-offers.spent) (omega arith)
@@ -213,25 +214,27 @@ returns-in-Err-pass-clause-few c u gates roots all =
     let words = c.requires.words in
     let ranges = device_ranges c.args.circuit.now part d c.requires.part.0 c.requires.device in
     let left_fits = place_fits part out c.place-left.result d.left.0 words.words.out_len c.place-left.ensures.some in
+    let left_is : EndIs part c.place-left.result d.left.0 = record { some = c.place-left.ensures.some; none = c.place-left.ensures.none } in
     let right_fits = place_fits part out c.place-right.result d.right.0 words.words.out_len c.place-right.ensures.some in
+    let right_is : EndIs part c.place-right.result d.right.0 = record { some = c.place-right.ensures.some; none = c.place-right.ensures.none } in
     let old = c.args.store.now in
     let half = c.offers.new.store in
     let a = c.offers-2.new.store in
-    let reads = offered_within u old c.args.roots out c.args.value c.args.side c.place-left.result d.left.0 (omega (arith, ranges.left, words.roots_len)) left_fits roots all in
+    let reads = offered_within u old c.args.roots out c.args.value c.args.side c.place-left.result d.left.0 left_fits (left_within u c.args.circuit.now part c.requires.part.1 d c.requires.device c.args.roots old roots c.place-left.result left_is) all in
     let f : Function = λ v. offered_end old c.args.roots out c.args.value c.args.side c.place-left.result d.left.0 v in
     let made = finds_made u old half f (Ok c.in-Ok.there) c.sound.ensures.sound.ends c.in-Ok.ensures reads in
     let first : Writes out.span old half = writes_added out.span old half words.words.out_live c.in-Ok.ensures.adds in
     let same = adds_words old half old.words c.in-Ok.ensures.adds in
     let all' = span_still u out.span out.span old half first same words.words.out_live all in
-    let roots' = span_beside u out.span c.args.roots old half first words.roots_apart words.roots_live roots in
-    let reads' = offered_within u half c.args.roots out c.args.value c.args.side c.place-right.result d.right.0 (omega (arith, ranges.right, words.roots_len)) right_fits roots' all' in
+    let roots' = roots_beside u c.args.circuit.now c.args.part.now c.requires.part.1 c.args.roots words.roots_len out.span old half first words.roots_apart words.roots_live roots in
+    let reads' = offered_within u half c.args.roots out c.args.value c.args.side c.place-right.result d.right.0 right_fits (right_within u c.args.circuit.now part c.requires.part.1 d c.requires.device c.args.roots half roots' c.place-right.result right_is) all' in
     let g : Function = λ v. offered_end half c.args.roots out c.args.value c.args.side c.place-right.result d.right.0 v in
     let made' = finds_made u half a g (Ok c.in-Ok-offers.here) first.adds.sound.ends c.in-Ok-offers.ensures reads' in
     let second : Writes out.span half a = writes_added out.span half a first.live c.in-Ok-offers.ensures.adds in
     let wa : Writes out.span old a = writes_then out.span old half a first second in
     let live : c.read.result < length old.nodes = omega (arith, c.read.ensures, words.words.gates_live d.gate.0 (omega (arith, ranges.gate, words.words.gates_len))) in
     let gate : IsWithin u (meaning old.nodes c.read.result) =
-    subst (λ (h : ℕ). IsWithin u (meaning old.nodes h)) (sym c.read.ensures) (gates d.gate.0 (omega (arith, ranges.gate, words.words.gates_len))) in
+    subst (λ (h : ℕ). IsWithin u (meaning old.nodes h)) (sym c.read.ensures) (gates d c.requires.device) in
     let gate_a = handle_kept u out.span old a c.read.result wa live gate in
     let there = handle_kept u out.span half a c.in-Ok.there.0 second c.in-Ok.ensures.ok.live made.within in
     let all_a = span_still u out.span out.span half a second (adds_words half a half.words c.in-Ok-offers.ensures.adds) first.live all' in
@@ -247,25 +250,27 @@ returns-in-Err-pass-2-clause-few c u gates roots all =
     let words = c.requires.words in
     let ranges = device_ranges c.args.circuit.now part d c.requires.part.0 c.requires.device in
     let left_fits = place_fits part out c.place-left.result d.left.0 words.words.out_len c.place-left.ensures.some in
+    let left_is : EndIs part c.place-left.result d.left.0 = record { some = c.place-left.ensures.some; none = c.place-left.ensures.none } in
     let right_fits = place_fits part out c.place-right.result d.right.0 words.words.out_len c.place-right.ensures.some in
+    let right_is : EndIs part c.place-right.result d.right.0 = record { some = c.place-right.ensures.some; none = c.place-right.ensures.none } in
     let old = c.args.store.now in
     let half = c.offers.new.store in
     let a = c.offers-2.new.store in
-    let reads = offered_within u old c.args.roots out c.args.value c.args.side c.place-left.result d.left.0 (omega (arith, ranges.left, words.roots_len)) left_fits roots all in
+    let reads = offered_within u old c.args.roots out c.args.value c.args.side c.place-left.result d.left.0 left_fits (left_within u c.args.circuit.now part c.requires.part.1 d c.requires.device c.args.roots old roots c.place-left.result left_is) all in
     let f : Function = λ v. offered_end old c.args.roots out c.args.value c.args.side c.place-left.result d.left.0 v in
     let made = finds_made u old half f (Ok c.in-Ok.there) c.sound.ensures.sound.ends c.in-Ok.ensures reads in
     let first : Writes out.span old half = writes_added out.span old half words.words.out_live c.in-Ok.ensures.adds in
     let same = adds_words old half old.words c.in-Ok.ensures.adds in
     let all' = span_still u out.span out.span old half first same words.words.out_live all in
-    let roots' = span_beside u out.span c.args.roots old half first words.roots_apart words.roots_live roots in
-    let reads' = offered_within u half c.args.roots out c.args.value c.args.side c.place-right.result d.right.0 (omega (arith, ranges.right, words.roots_len)) right_fits roots' all' in
+    let roots' = roots_beside u c.args.circuit.now c.args.part.now c.requires.part.1 c.args.roots words.roots_len out.span old half first words.roots_apart words.roots_live roots in
+    let reads' = offered_within u half c.args.roots out c.args.value c.args.side c.place-right.result d.right.0 right_fits (right_within u c.args.circuit.now part c.requires.part.1 d c.requires.device c.args.roots half roots' c.place-right.result right_is) all' in
     let g : Function = λ v. offered_end half c.args.roots out c.args.value c.args.side c.place-right.result d.right.0 v in
     let made' = finds_made u half a g (Ok c.in-Ok-offers.here) first.adds.sound.ends c.in-Ok-offers.ensures reads' in
     let second : Writes out.span half a = writes_added out.span half a first.live c.in-Ok-offers.ensures.adds in
     let wa : Writes out.span old a = writes_then out.span old half a first second in
     let live : c.read.result < length old.nodes = omega (arith, c.read.ensures, words.words.gates_live d.gate.0 (omega (arith, ranges.gate, words.words.gates_len))) in
     let gate : IsWithin u (meaning old.nodes c.read.result) =
-    subst (λ (h : ℕ). IsWithin u (meaning old.nodes h)) (sym c.read.ensures) (gates d.gate.0 (omega (arith, ranges.gate, words.words.gates_len))) in
+    subst (λ (h : ℕ). IsWithin u (meaning old.nodes h)) (sym c.read.ensures) (gates d c.requires.device) in
     let gate_a = handle_kept u out.span old a c.read.result wa live gate in
     let there = handle_kept u out.span half a c.in-Ok.there.0 second c.in-Ok.ensures.ok.live made.within in
     let all_a = span_still u out.span out.span half a second (adds_words half a half.words c.in-Ok-offers.ensures.adds) first.live all' in
@@ -288,25 +293,27 @@ returns-clause-few c u gates roots all =
     let words = c.requires.words in
     let ranges = device_ranges c.args.circuit.now part d c.requires.part.0 c.requires.device in
     let left_fits = place_fits part out c.place-left.result d.left.0 words.words.out_len c.place-left.ensures.some in
+    let left_is : EndIs part c.place-left.result d.left.0 = record { some = c.place-left.ensures.some; none = c.place-left.ensures.none } in
     let right_fits = place_fits part out c.place-right.result d.right.0 words.words.out_len c.place-right.ensures.some in
+    let right_is : EndIs part c.place-right.result d.right.0 = record { some = c.place-right.ensures.some; none = c.place-right.ensures.none } in
     let old = c.args.store.now in
     let half = c.offers.new.store in
     let a = c.offers-2.new.store in
-    let reads = offered_within u old c.args.roots out c.args.value c.args.side c.place-left.result d.left.0 (omega (arith, ranges.left, words.roots_len)) left_fits roots all in
+    let reads = offered_within u old c.args.roots out c.args.value c.args.side c.place-left.result d.left.0 left_fits (left_within u c.args.circuit.now part c.requires.part.1 d c.requires.device c.args.roots old roots c.place-left.result left_is) all in
     let f : Function = λ v. offered_end old c.args.roots out c.args.value c.args.side c.place-left.result d.left.0 v in
     let made = finds_made u old half f (Ok c.in-Ok.there) c.sound.ensures.sound.ends c.in-Ok.ensures reads in
     let first : Writes out.span old half = writes_added out.span old half words.words.out_live c.in-Ok.ensures.adds in
     let same = adds_words old half old.words c.in-Ok.ensures.adds in
     let all' = span_still u out.span out.span old half first same words.words.out_live all in
-    let roots' = span_beside u out.span c.args.roots old half first words.roots_apart words.roots_live roots in
-    let reads' = offered_within u half c.args.roots out c.args.value c.args.side c.place-right.result d.right.0 (omega (arith, ranges.right, words.roots_len)) right_fits roots' all' in
+    let roots' = roots_beside u c.args.circuit.now c.args.part.now c.requires.part.1 c.args.roots words.roots_len out.span old half first words.roots_apart words.roots_live roots in
+    let reads' = offered_within u half c.args.roots out c.args.value c.args.side c.place-right.result d.right.0 right_fits (right_within u c.args.circuit.now part c.requires.part.1 d c.requires.device c.args.roots half roots' c.place-right.result right_is) all' in
     let g : Function = λ v. offered_end half c.args.roots out c.args.value c.args.side c.place-right.result d.right.0 v in
     let made' = finds_made u half a g (Ok c.in-Ok-offers.here) first.adds.sound.ends c.in-Ok-offers.ensures reads' in
     let second : Writes out.span half a = writes_added out.span half a first.live c.in-Ok-offers.ensures.adds in
     let wa : Writes out.span old a = writes_then out.span old half a first second in
     let live : c.read.result < length old.nodes = omega (arith, c.read.ensures, words.words.gates_live d.gate.0 (omega (arith, ranges.gate, words.words.gates_len))) in
     let gate : IsWithin u (meaning old.nodes c.read.result) =
-    subst (λ (h : ℕ). IsWithin u (meaning old.nodes h)) (sym c.read.ensures) (gates d.gate.0 (omega (arith, ranges.gate, words.words.gates_len))) in
+    subst (λ (h : ℕ). IsWithin u (meaning old.nodes h)) (sym c.read.ensures) (gates d c.requires.device) in
     let gate_a = handle_kept u out.span old a c.read.result wa live gate in
     let there = handle_kept u out.span half a c.in-Ok.there.0 second c.in-Ok.ensures.ok.live made.within in
     let all_a = span_still u out.span out.span half a second (adds_words half a half.words c.in-Ok-offers.ensures.adds) first.live all' in

@@ -1,6 +1,6 @@
 use Rattle.std.proofs.Common.{◌≡◌, ◌+◌, ◌*◌, ◌≤◌, Ok, Err, length, arith, ◌∙◌}
 use Rattle.bdd_ops.proofs.CountingLaws.{counted_more, counted_then, counts_more, counts_ok}
-use Rattle.path_fixpoint.proofs.SpendingLaws.{span_beside, spends_behind, spends_err, spends_more}
+use Rattle.path_fixpoint.proofs.SpendingLaws.{gates_beside, spends_behind, spends_err, spends_more}
 use Rattle.vrt_model.specs.Lists.{Among}
 use Rattle.vrt_model.specs.declared.circuit.Device.{Device}
 use Rattle.path_fixpoint.specs.Parts.{part_devices}
@@ -40,7 +40,7 @@ loop-step-preserved c =
           c.loop-step.changed c.in-Ok.grew first old new c.requires.words i.writes (visited_more circuit part c.args.direction at device c.visited-device.ensures) i.spreads c.in-Ok.ensures.spreads;
       few = λ u gates all.
           let q = i.few u gates all in
-          let f = c.in-Ok.ensures.few u (span_beside u out.span c.args.gates first old i.writes c.requires.words.apart c.requires.words.gates_live gates) q.1 in
+          let f = c.in-Ok.ensures.few u (gates_beside u c.args.circuit.now c.args.part.now c.requires.part.0 out.span c.args.gates first old c.requires.words.gates_len i.writes c.requires.words.apart c.requires.words.gates_live gates) q.1 in
           (counted_more u (at * 4 + 4) ((at + 1) * 4) first new (omega arith) (counted_then u (at * 4) 4 first old new q.0 f.counts.added), f.within);
     }
 
@@ -61,7 +61,7 @@ returns-in-Err-clause-few c u gates all =
     let new = c.visit.new.store in
     let i = c.loop-step.invariant in
     let q = i.few u gates all in
-    let f = c.in-Err.ensures.few u (span_beside u out.span c.args.gates first old i.writes c.requires.words.apart c.requires.words.gates_live gates) q.1 in
+    let f = c.in-Err.ensures.few u (gates_beside u c.args.circuit.now c.args.part.now c.requires.part.0 out.span c.args.gates first old c.requires.words.gates_len i.writes c.requires.words.apart c.requires.words.gates_live gates) q.1 in
     spends_more u out.span (at * 4 + 4) (length part.devices * 4) first new (Err c.in-Err.spent) (omega (arith, c.len-step-end.ensures, c.loop-step-test.true))
     (spends_err u out.span (at * 4 + 4) first new c.in-Err.spent (spends_behind u out.span (at * 4) 4 first old new (Err c.in-Err.spent) q.0 f))
 

@@ -1,5 +1,6 @@
 use Rattle.std.proofs.Common.{ℕ, ◌*◌}
 use Rattle.bdd_ops.specs.Counting.{IsCounted, IsSpanWithin}
+use Rattle.path_fixpoint.specs.Spending.{AreGatesWithin}
 use Rattle.path_fixpoint.specs.Strengths.{ChangesLevel, Spreads}
 use Rattle.bdd_core.specs.Words.{Writes}
 use Rattle.path_fixpoint.proofs.Spreading.{Visited}
@@ -10,5 +11,5 @@ invariant-loop-step l = record {
   writes : Writes l.fn.out.span l.fn.store l.store;
   apart : ChangesLevel l.fn.out l.fn.level l.fn.store l.store;
   spreads : Spreads l.circuit l.part l.fn.gates l.fn.out l.fn.level l.fn.side (Visited l.circuit l.part l.fn.direction l.step) l.changed l.fn.store l.store;
-  few : (u : ℕ) → IsSpanWithin u l.fn.store l.fn.gates → IsSpanWithin u l.fn.store l.fn.out.span → IsCounted u (l.step * 4) l.fn.store l.store × IsSpanWithin u l.store l.fn.out.span;
+  few : (u : ℕ) → AreGatesWithin u l.circuit l.part l.fn.gates l.fn.store → IsSpanWithin u l.fn.store l.fn.out.span → IsCounted u (l.step * 4) l.fn.store l.store × IsSpanWithin u l.store l.fn.out.span;
 }

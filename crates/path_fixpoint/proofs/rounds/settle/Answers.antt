@@ -8,7 +8,7 @@ use Rattle.path_fixpoint.specs.declared.side.Side.TheVariants.{Inside, Outside}
 use Rattle.path_fixpoint.specs.Parts.{part_devices}
 use Rattle.std.proofs.Math.Nat.{mul-le-mul_right}
 use Rattle.bdd_ops.proofs.CountingLaws.{counted_more, counted_then, counts_more, counts_ok}
-use Rattle.path_fixpoint.proofs.SpendingLaws.{one_more, span_beside, spends_behind, spends_err, spends_more, spends_value, times_most}
+use Rattle.path_fixpoint.proofs.SpendingLaws.{gates_beside, one_more, spends_behind, spends_err, spends_more, spends_value, times_most}
 use Rattle.path_fixpoint.specs.Strengths.{HasPassed, HasRoots, HasWords, Spreads, StandsAt}
 use Rattle.bdd_core.proofs.Frames.{writes_then}
 use Rattle.path_fixpoint.proofs.Places.{cases_Side, place_in}
@@ -82,7 +82,7 @@ rounds-preserved c =
       few = λ u gates all.
           let q = i.few u gates all in
           let size = length part.devices * 4 in
-          let f = c.in-Ok.ensures.few u (span_beside u out.span c.args.gates first old i.writes c.requires.words.apart c.requires.words.gates_live gates) q.1 in
+          let f = c.in-Ok.ensures.few u (gates_beside u c.args.circuit.now c.args.part.now c.requires.part.0 out.span c.args.gates first old c.requires.words.gates_len i.writes c.requires.words.apart c.requires.words.gates_live gates) q.1 in
           (counted_more u (c.rounds.count * size + size) ((c.rounds.count + 1) * size) first new (one_more c.rounds.count size) (counted_then u (c.rounds.count * size) size first old new q.0 f.counts.added), f.within);
     }
 
@@ -106,7 +106,7 @@ returns-in-Err-clause-few c u gates all =
     let size = length part.devices * 4 in
     let q = i.few u gates all in
     let enough : c.rounds.count + 1 ≤ length part.nets = omega (arith, c.rounds-test.true, c.len-count-end.ensures) in
-    let f = c.in-Err.ensures.few u (span_beside u out.span c.args.gates first old i.writes c.requires.words.apart c.requires.words.gates_live gates) q.1 in
+    let f = c.in-Err.ensures.few u (gates_beside u c.args.circuit.now c.args.part.now c.requires.part.0 out.span c.args.gates first old c.requires.words.gates_len i.writes c.requires.words.apart c.requires.words.gates_live gates) q.1 in
     spends_more u out.span (c.rounds.count * size + size) (length part.nets * size) first new (Err c.in-Err.spent) (times_most c.rounds.count (length part.nets) size enough)
     (spends_err u out.span (c.rounds.count * size + size) first new c.in-Err.spent (spends_behind u out.span (c.rounds.count * size) size first old new (Err c.in-Err.spent) q.0 f))
 
@@ -121,7 +121,7 @@ returns-then-is_settled-clause-few c u gates all =
     let size = length part.devices * 4 in
     let q = i.few u gates all in
     let enough : c.rounds.count + 1 ≤ length part.nets = omega (arith, c.rounds-test.true, c.len-count-end.ensures) in
-    let f = c.in-Ok.ensures.few u (span_beside u out.span c.args.gates first old i.writes c.requires.words.apart c.requires.words.gates_live gates) q.1 in
+    let f = c.in-Ok.ensures.few u (gates_beside u c.args.circuit.now c.args.part.now c.requires.part.0 out.span c.args.gates first old c.requires.words.gates_len i.writes c.requires.words.apart c.requires.words.gates_live gates) q.1 in
     spends_more u out.span (c.rounds.count * size + size) (length part.nets * size) first new (Ok tt) (times_most c.rounds.count (length part.nets) size enough)
     (spends_value u out.span (c.rounds.count * size + size) first new c.in-Ok.changed tt (spends_behind u out.span (c.rounds.count * size) size first old new (Ok c.in-Ok.changed) q.0 f))
 

@@ -64,9 +64,8 @@ returns-clause-spreads c =
 pub returns-in-Err-clause-few : goal.returns-in-Err-clause-few
 returns-in-Err-clause-few c u gates all =
     let old = c.args.store.now in
-    let lt = (device_ranges c.args.circuit.now c.args.part.now c.args.device.now c.requires.part.0 c.requires.device).gate in
     let gate : IsWithin u (meaning old.nodes c.read.result) =
-    subst (λ (h : ℕ). IsWithin u (meaning old.nodes h)) (sym c.read.ensures) (gates c.args.device.now.gate.0 (omega (arith, lt, c.requires.words.gates_len))) in
+    subst (λ (h : ℕ). IsWithin u (meaning old.nodes h)) (sym c.read.ensures) (gates c.args.device.now c.requires.device) in
     let there = offered_within u c.args.side c.place-left.result c.strength-left_mark.result.0 c.offered-there.result.0 old c.offered-there.ensures (c.strength-left_mark.ensures.few u all) in
     spends_more u c.args.out.span 2 4 old c.pass.new.store (Err c.in-Err.spent) (omega arith) (c.in-Err.ensures.few u all gate there)
 
@@ -78,7 +77,7 @@ returns-in-Err-pass-clause-few c u gates all =
     let lt = (device_ranges c.args.circuit.now c.args.part.now c.args.device.now c.requires.part.0 c.requires.device).gate in
     let live : c.read.result < length old.nodes = omega (arith, c.read.ensures, c.requires.words.gates_live c.args.device.now.gate.0 (omega (arith, lt, c.requires.words.gates_len))) in
     let gate : IsWithin u (meaning old.nodes c.read.result) =
-    subst (λ (h : ℕ). IsWithin u (meaning old.nodes h)) (sym c.read.ensures) (gates c.args.device.now.gate.0 (omega (arith, lt, c.requires.words.gates_len))) in
+    subst (λ (h : ℕ). IsWithin u (meaning old.nodes h)) (sym c.read.ensures) (gates c.args.device.now c.requires.device) in
     let there = offered_within u c.args.side c.place-left.result c.strength-left_mark.result.0 c.offered-there.result.0 old c.offered-there.ensures (c.strength-left_mark.ensures.few u all) in
     let here = offered_within u c.args.side c.place-right.result c.strength-right_mark.result.0 c.offered-here.result.0 old c.offered-here.ensures (c.strength-right_mark.ensures.few u all) in
     let live_here = offered_live c.args.side c.place-right.result c.strength-right_mark.result.0 c.offered-here.result.0 (length old.nodes) c.offered-here.ensures c.strength-right_mark.ensures.live c.sound.ensures.sound.ends in
@@ -95,7 +94,7 @@ returns-clause-few c u gates all =
     let lt = (device_ranges c.args.circuit.now c.args.part.now c.args.device.now c.requires.part.0 c.requires.device).gate in
     let live : c.read.result < length old.nodes = omega (arith, c.read.ensures, c.requires.words.gates_live c.args.device.now.gate.0 (omega (arith, lt, c.requires.words.gates_len))) in
     let gate : IsWithin u (meaning old.nodes c.read.result) =
-    subst (λ (h : ℕ). IsWithin u (meaning old.nodes h)) (sym c.read.ensures) (gates c.args.device.now.gate.0 (omega (arith, lt, c.requires.words.gates_len))) in
+    subst (λ (h : ℕ). IsWithin u (meaning old.nodes h)) (sym c.read.ensures) (gates c.args.device.now c.requires.device) in
     let there = offered_within u c.args.side c.place-left.result c.strength-left_mark.result.0 c.offered-there.result.0 old c.offered-there.ensures (c.strength-left_mark.ensures.few u all) in
     let here = offered_within u c.args.side c.place-right.result c.strength-right_mark.result.0 c.offered-here.result.0 old c.offered-here.ensures (c.strength-right_mark.ensures.few u all) in
     let live_here = offered_live c.args.side c.place-right.result c.strength-right_mark.result.0 c.offered-here.result.0 (length old.nodes) c.offered-here.ensures c.strength-right_mark.ensures.live c.sound.ensures.sound.ends in

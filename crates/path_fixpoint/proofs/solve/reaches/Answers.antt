@@ -1,6 +1,6 @@
 use Rattle.std.proofs.Common.{◌+◌, ◌*◌, length, Err, arith}
 use Rattle.bdd_core.proofs.Results.{if_ok_more}
-use Rattle.path_fixpoint.proofs.SpendingLaws.{span_beside, spends_behind, spends_more}
+use Rattle.path_fixpoint.proofs.SpendingLaws.{gates_beside, roots_beside, spends_behind, spends_more}
 use Rattle.bdd_core.proofs.Frames.{writes_then}
 use Rattle.path_fixpoint.proofs.ReachLaws.{root_words_kept, solved_kept}
 use Rattle.path_fixpoint.specs.Parts.{pins_at, pins_of}
@@ -41,4 +41,4 @@ returns-clause-few c one u gates roots all =
     let wrote = c.in-Ok.ensures.writes in
     let opened = c.in-Ok.ensures.few one u roots all in
     spends_behind u out.span (n * 6 + r * 3) size old mid c.settle.new.store c.settle.result opened.counts.added
-    (c.settle.ensures.few u (span_beside u out.span c.args.gates old mid wrote words.words.apart words.words.gates_live gates) (span_beside u out.span c.args.roots old mid wrote words.roots_apart words.roots_live roots) opened.within)
+    (c.settle.ensures.few u (gates_beside u c.args.circuit.now c.args.part.now c.requires.part.0 out.span c.args.gates old mid words.words.gates_len wrote words.words.apart words.words.gates_live gates) (roots_beside u c.args.circuit.now c.args.part.now c.requires.part.1 c.args.roots words.roots_len out.span old mid wrote words.roots_apart words.roots_live roots) opened.within)

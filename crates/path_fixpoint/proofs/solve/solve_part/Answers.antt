@@ -2,10 +2,9 @@ use Rattle.std.proofs.Common.{subst, sym}
 use Rattle.std.specs.Prelude.{IfOk, ℕ}
 use Rattle.bdd_core.specs.Diagram.{Valuation}
 use Rattle.bdd_core.specs.Words.{Writes}
-use Rattle.bdd_ops.specs.Counting.{IsSpanWithin}
 use Rattle.path_fixpoint.specs.Parts.{AreSoftInside}
 use Rattle.path_fixpoint.specs.Solved.{HasRootSpans, TellsReach, network_at}
-use Rattle.path_fixpoint.specs.Spending.{HasOneHold, Spends, solving_operations}
+use Rattle.path_fixpoint.specs.Spending.{AreGatesWithin, AreRootsWithin, HasOneHold, Spends, solving_operations}
 use Rattle.path_fixpoint.specs.Strengths.{TellsStrengths}
 use Rattle.path_fixpoint.specs.declared.words.NetWords.{NetWords}
 use Rattle.path_fixpoint.proofs.solve.solve_part.Goals as goal
@@ -33,6 +32,6 @@ returns-clause-reaches c =
 
 pub returns-clause-few : goal.returns-clause-few
 returns-clause-few c =
-    subst (λ (w : NetWords). HasOneHold c.args.circuit.now → (u : ℕ) → IsSpanWithin u c.args.store.now c.args.gates → IsSpanWithin u c.args.store.now c.args.roots
+    subst (λ (w : NetWords). HasOneHold c.args.circuit.now → (u : ℕ) → AreGatesWithin u c.args.circuit.now c.args.part.now c.args.gates c.args.store.now → AreRootsWithin u c.args.circuit.now c.args.part.now c.args.roots c.args.store.now
     → Spends u (solving_operations c.args.circuit.now c.args.part.now) w.span c.args.store.now c.solve_words.new.store c.solve_words.result)
     c.new-words.ensures c.solve_words.ensures.few

@@ -6,7 +6,7 @@ use Rattle.path_fixpoint.specs.Reaching.{HasRootWords, SolvedAt}
 use Rattle.path_fixpoint.specs.Solved.{network_at}
 use Rattle.bdd_ops.proofs.CountingLaws.{counted_then}
 use Rattle.bdd_core.proofs.Frames.{filled_beside, writes_then}
-use Rattle.path_fixpoint.proofs.SpendingLaws.{part_most, part_most_levels, part_most_one, span_beside, spends_behind, spends_more}
+use Rattle.path_fixpoint.proofs.SpendingLaws.{gates_beside, part_most, part_most_levels, part_most_one, roots_beside, spends_behind, spends_more}
 use Rattle.path_fixpoint.proofs.ReachLaws.{root_words_kept, solved_kept}
 use Rattle.path_fixpoint.proofs.SolveLaws.{both_reach, root_words_from, solved_from, stands_here, strength_here, tells_stay, zeros_stay}
 use Rattle.path_fixpoint.proofs.solve.solve_words.Goals as goal
@@ -114,8 +114,8 @@ returns-in-Err-reaches-clause-few c one u gates roots =
     let most = (12 * s + 12) * (n * m) + 12 * n + 6 * r in
     let wa = c.in-Ok.ensures.writes in
     let found = c.in-Ok.ensures.few u gates in
-    let gates_a = span_beside u out.span c.args.gates old a wa spans.spans.apart spans.spans.gates_live gates in
-    let roots_a = span_beside u out.span c.args.roots old a wa spans.roots_apart spans.roots_live roots in
+    let gates_a = gates_beside u c.args.circuit.now c.args.part.now c.requires.circuit out.span c.args.gates old a spans.spans.gates_len wa spans.spans.apart spans.spans.gates_live gates in
+    let roots_a = roots_beside u c.args.circuit.now c.args.part.now c.requires.part c.args.roots spans.roots_len out.span old a wa spans.roots_apart spans.roots_live roots in
     let new = c.reaches.new.store in
     spends_more u out.span (first + each) most old new (Err c.in-Err-reaches.spent) (part_most_one s n m r)
     (spends_behind u out.span first each old a new (Err c.in-Err-reaches.spent) found.counts.added (spends_more u out.span (of_source out.source) each a new (Err c.in-Err-reaches.spent) (omega (arith, same)) (c.in-Err-reaches.ensures.few one u gates_a roots_a found.within)))
@@ -137,13 +137,13 @@ returns-clause-few c one u gates roots =
     let most = (12 * s + 12) * (n * m) + 12 * n + 6 * r in
     let wa = c.in-Ok.ensures.writes in
     let found = c.in-Ok.ensures.few u gates in
-    let gates_a = span_beside u out.span c.args.gates old a wa spans.spans.apart spans.spans.gates_live gates in
-    let roots_a = span_beside u out.span c.args.roots old a wa spans.roots_apart spans.roots_live roots in
+    let gates_a = gates_beside u c.args.circuit.now c.args.part.now c.requires.circuit out.span c.args.gates old a spans.spans.gates_len wa spans.spans.apart spans.spans.gates_live gates in
+    let roots_a = roots_beside u c.args.circuit.now c.args.part.now c.requires.part c.args.roots spans.roots_len out.span old a wa spans.roots_apart spans.roots_live roots in
     let b = c.reaches.new.store in
     let wb = c.in-Ok-reaches.ensures.writes in
     let zeros = spends_more u out.span (of_source out.source) each a b _ (omega (arith, same)) (c.in-Ok-reaches.ensures.few one u gates_a roots_a found.within) in
-    let gates_b = span_beside u out.span c.args.gates a b wb spans.spans.apart (filled_beside out.span c.args.gates old a wa spans.spans.apart spans.spans.gates_live) gates_a in
-    let roots_b = span_beside u out.span c.args.roots a b wb spans.roots_apart (filled_beside out.span c.args.roots old a wa spans.roots_apart spans.roots_live) roots_a in
+    let gates_b = gates_beside u c.args.circuit.now c.args.part.now c.requires.circuit out.span c.args.gates a b spans.spans.gates_len wb spans.spans.apart (filled_beside out.span c.args.gates old a wa spans.spans.apart spans.spans.gates_live) gates_a in
+    let roots_b = roots_beside u c.args.circuit.now c.args.part.now c.requires.part c.args.roots spans.roots_len out.span a b wb spans.roots_apart (filled_beside out.span c.args.roots old a wa spans.roots_apart spans.roots_live) roots_a in
     let count = counted_then u first each old a b found.counts.added zeros.counts.added in
     let new = c.reaches-2.new.store in
     spends_more u out.span (first + each + each) most old new c.reaches-2.result (part_most s n m r)

@@ -9,7 +9,7 @@ use Rattle.bdd_core.proofs.Frames.{writes_then}
 use Rattle.path_fixpoint.proofs.Places.{place_in, place_once}
 use Rattle.path_fixpoint.proofs.SourceLaws.{adds_same, adds_then}
 use Rattle.bdd_ops.proofs.CountingLaws.{counted_more, counted_then, counts_more, counts_ok}
-use Rattle.path_fixpoint.proofs.SpendingLaws.{span_beside, spends_behind, spends_more}
+use Rattle.path_fixpoint.proofs.SpendingLaws.{roots_beside, spends_behind, spends_more}
 use Rattle.vrt_model.specs.Levels.{source_level}
 use Rattle.path_fixpoint.proofs.SourceLevels.{source_low}
 use Rattle.path_fixpoint.proofs.sources.add_given.Goals as goal
@@ -45,7 +45,7 @@ loop-net-preserved c =
           i.adds c.in-Ok.ensures.adds;
       few = λ u roots all.
           let q = i.few u roots all in
-          let f = c.in-Ok.ensures.few u (span_beside u out.span c.args.roots first old i.writes words.roots_apart words.roots_live roots) q.1 in
+          let f = c.in-Ok.ensures.few u ((roots_beside u c.args.circuit.now c.args.part.now c.requires.part.1 c.args.roots words.roots_len out.span first old i.writes words.roots_apart words.roots_live roots).given at net.0 (net, there, refl)) q.1 in
           (counted_more u (at * 3 + 3) ((at + 1) * 3) first new (omega arith) (counted_then u (at * 3) 3 first old new q.0 f.counts.added), f.within);
     }
 
@@ -64,13 +64,16 @@ returns-in-Err-clause-few c u roots all =
     let out = c.args.out in
     let part = c.args.part.now in
     let at = c.loop-net.net-index in
+    let blank : Net = record { 0 = 0 } in
+    let net : Net = get_or c.as_slice-net-items.result.now at blank in
+    let there : At part.nets at net = subst (λ (xs : List Net). At xs at net) c.as_slice-net-items.ensures (slice_get-get_or c.as_slice-net-items.result.now at blank c.loop-net-test.true) in
     let first = c.args.store.now in
     let old = c.loop-net.store in
     let new = c.add_net.new.store in
     let i = c.loop-net.invariant in
     let shown : length c.as_slice-net-items.result.now ≡ length part.nets = ap (λ (xs : List Net). length xs) c.as_slice-net-items.ensures in
     let q = i.few u roots all in
-    let f = c.in-Err.ensures.few u (span_beside u out.span c.args.roots first old i.writes c.requires.words.roots_apart c.requires.words.roots_live roots) q.1 in
+    let f = c.in-Err.ensures.few u ((roots_beside u c.args.circuit.now c.args.part.now c.requires.part.1 c.args.roots c.requires.words.roots_len out.span first old i.writes c.requires.words.roots_apart c.requires.words.roots_live roots).given at net.0 (net, there, refl)) q.1 in
     spends_more u out.span (at * 3 + 3) (length part.nets * 3) first new (Err c.in-Err.spent) (omega (arith, shown, c.loop-net-test.true))
     (spends_behind u out.span (at * 3) 3 first old new (Err c.in-Err.spent) q.0 f)
 

@@ -11,7 +11,7 @@ use Rattle.bdd_core.proofs.Frames.{writes_none, writes_then}
 use Rattle.path_fixpoint.proofs.SourceLaws.{adds_none, adds_same, adds_then}
 use Rattle.bdd_ops.proofs.CountingLaws.{counted_more, counted_same, counted_then, counts_more, counts_ok}
 use Rattle.path_fixpoint.proofs.HoldPlaces.{places_few, places_less, places_more, places_none}
-use Rattle.path_fixpoint.proofs.SpendingLaws.{span_beside, spends_behind, spends_more}
+use Rattle.path_fixpoint.proofs.SpendingLaws.{roots_beside, spends_behind, spends_more}
 use Rattle.path_fixpoint.proofs.sources.add_holds.Goals as goal
 
 pub loop-hold-init : goal.loop-hold-init
@@ -60,7 +60,7 @@ loop-hold-preserved c =
       few = λ one u roots all.
           let q = i.few one u roots all in
           let k = q.0 in
-          elim (c.in-Ok.ensures.few u (span_beside u out.span c.args.roots first old i.writes words.roots_apart words.roots_live roots) q.3) [
+          elim (c.in-Ok.ensures.few u (λ j p. (roots_beside u c.args.circuit.now c.args.part.now c.requires.part.1 c.args.roots words.roots_len out.span first old i.writes words.roots_apart words.roots_live roots).held at j hold there p) q.3) [
             | inl none ↦ (k, places_less circuit part at (at + 1) k (omega arith) q.1, counted_more u (k * 3 + 0) (k * 3) first new (omega arith) (counted_then u (k * 3) 0 first old new q.2 none.counts.added), none.within)
             | inr some ↦ (
               k + 1,
@@ -94,7 +94,7 @@ returns-in-Err-clause-few c one u roots all =
     let there : At circuit.holds at hold = item_at circuit.holds c.as_slice-hold-items.result.now at hold c.as_slice-hold-items.ensures c.loop-hold-test.true c.hold-item.is in
     let q = i.few one u roots all in
     let k = q.0 in
-    elim (c.in-Err.ensures.few u (span_beside u out.span c.args.roots first old i.writes c.requires.words.roots_apart c.requires.words.roots_live roots) q.3) [
+    elim (c.in-Err.ensures.few u (λ j p. (roots_beside u c.args.circuit.now c.args.part.now c.requires.part.1 c.args.roots c.requires.words.roots_len out.span first old i.writes c.requires.words.roots_apart c.requires.words.roots_live roots).held at j hold there p) q.3) [
       | inl none ↦ spends_more u out.span (k * 3 + 0) (length part.nets * 3) first new (Err c.in-Err.spent) (omega (arith, places_few circuit part at k q.1))
           (spends_behind u out.span (k * 3) 0 first old new (Err c.in-Err.spent) q.2 none)
       | inr some ↦ spends_more u out.span (k * 3 + 3) (length part.nets * 3) first new (Err c.in-Err.spent)

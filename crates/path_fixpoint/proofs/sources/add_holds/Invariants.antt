@@ -1,5 +1,5 @@
 use Rattle.bdd_ops.specs.Counting.{IsCounted, IsSpanWithin}
-use Rattle.path_fixpoint.specs.Spending.{HasOneHold}
+use Rattle.path_fixpoint.specs.Spending.{AreRootsWithin, HasOneHold}
 use Rattle.path_fixpoint.proofs.HoldPlaces.{HoldPlaces}
 use Rattle.std.proofs.Common.{◌≡◌, ℕ, ◌*◌, ◌<◌}
 use Rattle.vrt_model.specs.Lists.{At}
@@ -15,6 +15,6 @@ invariant-loop-hold l = record {
   writes : Writes l.fn.out.span l.fn.store l.store;
   apart : ChangesLevel l.fn.out (slot_of l.fn.out l.fn.value) l.fn.store l.store;
   adds : AddsRoots l.part l.fn.roots l.fn.out l.fn.value (λ n at size. (k : ℕ) × (k < l.hold-index) × (hold : Hold) × At l.circuit.holds k hold × (hold.net.0 ≡ n) × (at ≡ n) × (hold.size ≡ size)) l.fn.store l.store;
-  few : HasOneHold l.circuit → (u : ℕ) → IsSpanWithin u l.fn.store l.fn.roots → IsSpanWithin u l.fn.store l.fn.out.span
+  few : HasOneHold l.circuit → (u : ℕ) → AreRootsWithin u l.circuit l.part l.fn.roots l.fn.store → IsSpanWithin u l.fn.store l.fn.out.span
       → (count : ℕ) × HoldPlaces l.circuit l.part l.hold-index count × IsCounted u (count * 3) l.fn.store l.store × IsSpanWithin u l.store l.fn.out.span;
 }

@@ -20,7 +20,7 @@ returns-clause-adds c =
     c.add_root.ensures.adds
 
 pub returns-clause-few : goal.returns-clause-few
-returns-clause-few c u roots all = elim (c.add_root.ensures.few u roots all) [
+returns-clause-few c u roots all = elim (c.add_root.ensures.few u (λ i p. roots (c.is_given.ensures.0 c.if-not-is_given.false)) all) [
   | inl none ↦ spends_more u c.args.out.span 0 3 c.args.store.now c.add_root.new.store c.add_root.result (omega arith) none
   | inr some ↦ some.2
 ]

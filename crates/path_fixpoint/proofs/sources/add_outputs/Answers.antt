@@ -11,7 +11,7 @@ use Rattle.bdd_core.proofs.Frames.{writes_none, writes_then}
 use Rattle.path_fixpoint.proofs.PinLaws.{at_grows, at_more, source_front, source_last, source_split, taken_at, taken_source}
 use Rattle.path_fixpoint.proofs.SourceLaws.{adds_none, adds_then}
 use Rattle.bdd_ops.proofs.CountingLaws.{counted_more, counted_same, counted_then, counts_more, counts_ok}
-use Rattle.path_fixpoint.proofs.SpendingLaws.{span_beside, spends_behind, spends_more}
+use Rattle.path_fixpoint.proofs.SpendingLaws.{spends_behind, spends_more, word_kept}
 use Rattle.path_fixpoint.proofs.sources.add_outputs.Goals as goal
 
 pub loop-at-init : goal.loop-at-init
@@ -20,7 +20,7 @@ loop-at-init c = record {
   apart = λ k away. refl;
   adds = adds_none c.args.part.now c.args.roots c.args.out c.args.value (IsPinSource c.args.out.source (take 0 c.args.outputs.now) c.args.first) c.args.store.now
       (λ n at size q i p. absurd (at_none q.0 q.1 q.2));
-  few = λ u roots all. (counted_same u c.args.store.now c.args.store.now refl refl, all);
+  few = λ u pins all. (counted_same u c.args.store.now c.args.store.now refl refl, all);
 }
 
 pub loop-at-preserved : goal.loop-at-preserved
@@ -58,12 +58,12 @@ loop-at-preserved c =
           let level = whole.5 in
           (omega (arith, inside, is, c.requires.handles), omega (arith, low, level)))
           i.adds c.in-Ok.ensures.adds;
-      few = λ u roots all.
-          let q = i.few u roots all in
+      few = λ u pins all.
+          let q = i.few u pins all in
           let k = pins_at part (take at outputs) in
           let k' = pins_at part (take (at + 1) outputs) in
           let grows : k ≤ k' = (let more = at_grows part (take at outputs) pin in omega (arith, more, ap (λ (ps : List WholePin). pins_at part ps) next)) in
-          elim (c.in-Ok.ensures.few u (span_beside u out.span c.args.roots first old i.writes c.requires.roots.2 c.requires.roots.1 roots) q.1) [
+          elim (c.in-Ok.ensures.few u (λ j p. word_kept u out.span c.args.roots first old i.writes c.requires.roots.2 c.requires.roots.1 (c.args.first + at) (omega (arith, slice_get_within outputs at pin there, c.requires.handles)) (pins at j pin there p)) q.1) [
             | inl none ↦ (counted_more u (k * 3 + 0) (k' * 3) first new (omega (arith, grows)) (counted_then u (k * 3) 0 first old new q.0 none.counts.added), none.within)
             | inr some ↦
                 let one : k' ≡ k + 1 = ap (λ (ps : List WholePin). pins_at part ps) next ∙ at_more part (take at outputs) pin some.0 some.1 in
@@ -79,7 +79,7 @@ returns-clause-adds c =
     (take_all at outputs (omega (arith, c.loop-at-test.false))) c.loop-at.invariant.adds
 
 pub returns-in-Err-clause-few : goal.returns-in-Err-clause-few
-returns-in-Err-clause-few c u roots all =
+returns-in-Err-clause-few c u pins all =
     let out = c.args.out in
     let part = c.args.part.now in
     let outputs = c.args.outputs.now in
@@ -92,8 +92,8 @@ returns-in-Err-clause-few c u roots all =
     let there : At outputs at pin = c.pin_at-pin.ensures in
     let next : take (at + 1) outputs ≡ take at outputs ++ pin ∷ [] = take_one outputs at pin there in
     let k = pins_at part (take at outputs) in
-    let q = i.few u roots all in
-    elim (c.in-Err.ensures.few u (span_beside u out.span c.args.roots first old i.writes c.requires.roots.2 c.requires.roots.1 roots) q.1) [
+    let q = i.few u pins all in
+    elim (c.in-Err.ensures.few u (λ j p. word_kept u out.span c.args.roots first old i.writes c.requires.roots.2 c.requires.roots.1 (c.args.first + at) (omega (arith, slice_get_within outputs at pin there, c.requires.handles)) (pins at j pin there p)) q.1) [
       | inl none ↦ spends_more u out.span (k * 3 + 0) (pins_at part outputs * 3) first new (Err c.in-Err.spent) (omega (arith, taken_at part outputs at))
           (spends_behind u out.span (k * 3) 0 first old new (Err c.in-Err.spent) q.0 none)
       | inr some ↦
@@ -103,12 +103,12 @@ returns-in-Err-clause-few c u roots all =
     ]
 
 pub returns-clause-few : goal.returns-clause-few
-returns-clause-few c u roots all =
+returns-clause-few c u pins all =
     let part = c.args.part.now in
     let outputs = c.args.outputs.now in
     let at = c.loop-at.at in
     let first = c.args.store.now in
     let new = c.loop-at.store in
     let k = pins_at part (take at outputs) in
-    let q = c.loop-at.invariant.few u roots all in
+    let q = c.loop-at.invariant.few u pins all in
     record { counts = counts_more u (k * 3) (pins_at part outputs * 3) first new (Ok tt) (omega (arith, taken_at part outputs at)) (counts_ok u (k * 3) first new tt q.0); within = q.1 }

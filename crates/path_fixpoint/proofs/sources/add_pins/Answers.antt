@@ -12,7 +12,7 @@ use Rattle.bdd_core.proofs.Frames.{writes_none, writes_then}
 use Rattle.path_fixpoint.proofs.PinLaws.{at_append, before_all, before_at, before_in, before_source, before_length, before_more, pin_level, pin_whole, pins_before, source_back, source_either, source_front}
 use Rattle.path_fixpoint.proofs.SourceLaws.{adds_none, adds_then}
 use Rattle.bdd_ops.proofs.CountingLaws.{counted_more, counted_same, counted_then, counts_more, counts_ok}
-use Rattle.path_fixpoint.proofs.SpendingLaws.{span_beside, spends_behind, spends_more}
+use Rattle.path_fixpoint.proofs.SpendingLaws.{outputs_within, roots_beside, spends_behind, spends_more}
 use Rattle.path_fixpoint.specs.Sources.{HasDriveLevel}
 use Rattle.path_fixpoint.proofs.sources.add_pins.Goals as goal
 
@@ -112,7 +112,7 @@ loop-whole-preserved c =
           let q = i.few u roots all in
           let k = pins_at part before in
           let more = pins_at part c.as_slice-outputs.result.now in
-          let f = c.in-Ok.ensures.few u (span_beside u out.span c.args.roots first old i.writes words.roots_apart words.roots_live roots) q.1 in
+          let f = c.in-Ok.ensures.few u (outputs_within u circuit part c.args.roots old at w c.as_slice-outputs.result.now c.loop-whole.first there shown i.first (roots_beside u c.args.circuit.now c.args.part.now c.requires.part.1 c.args.roots words.roots_len out.span first old i.writes words.roots_apart words.roots_live roots)) q.1 in
           let sum : pins_at part (pins_before circuit (at + 1)) ≡ k + more =
           ap (λ (ps : List WholePin). pins_at part ps) next ∙ at_append part before w.outputs ∙ ap (λ (ps : List WholePin). k + pins_at part ps) (sym shown) in
           (counted_more u (k * 3 + more * 3) (pins_at part (pins_before circuit (at + 1)) * 3) first new (omega (arith, sum)) (counted_then u (k * 3) (more * 3) first old new q.0 f.counts.added), f.within);
@@ -146,7 +146,7 @@ returns-in-Err-clause-few c u roots all =
     let sum : pins_at part (pins_before circuit (at + 1)) ≡ k + more =
     ap (λ (ps : List WholePin). pins_at part ps) (before_more circuit at w there) ∙ at_append part before w.outputs ∙ ap (λ (ps : List WholePin). k + pins_at part ps) (sym shown) in
     let q = i.few u roots all in
-    let f = c.in-Err.ensures.few u (span_beside u out.span c.args.roots first old i.writes words.roots_apart words.roots_live roots) q.1 in
+    let f = c.in-Err.ensures.few u (outputs_within u circuit part c.args.roots old at w c.as_slice-outputs.result.now c.loop-whole.first there shown i.first (roots_beside u c.args.circuit.now c.args.part.now c.requires.part.1 c.args.roots words.roots_len out.span first old i.writes words.roots_apart words.roots_live roots)) q.1 in
     spends_more u out.span (k * 3 + more * 3) (pins_at part (pins_of circuit) * 3) first new (Err c.in-Err.spent) (omega (arith, sum, before_at circuit part (at + 1)))
     (spends_behind u out.span (k * 3) (more * 3) first old new (Err c.in-Err.spent) q.0 f)
 

@@ -1,4 +1,5 @@
 use Rattle.bdd_ops.specs.Counting.{IsCounted, IsSpanWithin}
+use Rattle.path_fixpoint.specs.Spending.{AreRootsWithin}
 use Rattle.std.proofs.Common.{◌≡◌, ℕ, ◌+◌, ◌*◌, length}
 use Rattle.path_fixpoint.specs.Parts.{pins_at}
 use Rattle.path_fixpoint.specs.Reaching.{slot_of}
@@ -14,6 +15,6 @@ invariant-loop-whole l = record {
   apart : ChangesLevel l.fn.out (slot_of l.fn.out l.fn.value) l.fn.store l.store;
   first : l.first ≡ length l.circuit.nets + length (pins_before l.circuit l.whole-index);
   adds : AddsRoots l.part l.fn.roots l.fn.out l.fn.value (IsPinSource l.fn.out.source (pins_before l.circuit l.whole-index) (length l.circuit.nets)) l.fn.store l.store;
-  few : (u : ℕ) → IsSpanWithin u l.fn.store l.fn.roots → IsSpanWithin u l.fn.store l.fn.out.span
+  few : (u : ℕ) → AreRootsWithin u l.circuit l.part l.fn.roots l.fn.store → IsSpanWithin u l.fn.store l.fn.out.span
       → IsCounted u (pins_at l.part (pins_before l.circuit l.whole-index) * 3) l.fn.store l.store × IsSpanWithin u l.store l.fn.out.span;
 }

@@ -82,7 +82,7 @@ returns-in-Err-clause-few c u roots all =
       c.in-Some.ensures.some,
       spends_refused u c.args.out.span 3 old c.root_bit.new.store c.in-Err.spent
           (counts_more u 1 3 old c.root_bit.new.store (Err c.in-Err.spent) (omega arith)
-          (counts_made u old c.root_bit.new.store c.sound.ensures.sound.ends _ (Err c.in-Err.spent) c.in-Err.ensures (root_within u old c.args.roots c.args.source.at c.args.value c.requires.roots.2 roots))),
+          (counts_made u old c.root_bit.new.store c.sound.ensures.sound.ends _ (Err c.in-Err.spent) c.in-Err.ensures (root_within u old c.args.roots c.args.source.at c.args.value (roots c.in-Some.i c.in-Some.ensures.some)))),
     )
 
 pub returns-in-Err-unblocked-clause-few : goal.returns-in-Err-unblocked-clause-few
@@ -90,7 +90,7 @@ returns-in-Err-unblocked-clause-few c u roots all =
     let out = c.args.out in
     let old = c.args.store.now in
     let mid = c.root_bit.new.store in
-    let made = finds_made u old mid _ (Ok c.in-Ok.bit) c.sound.ensures.sound.ends c.in-Ok.ensures (root_within u old c.args.roots c.args.source.at c.args.value c.requires.roots.2 roots) in
+    let made = finds_made u old mid _ (Ok c.in-Ok.bit) c.sound.ensures.sound.ends c.in-Ok.ensures (root_within u old c.args.roots c.args.source.at c.args.value (roots c.in-Some.i c.in-Some.ensures.some)) in
     let held = span_still u out.span out.span old mid (writes_added out.span old mid c.requires.out.1 c.in-Ok.ensures.adds) (adds_words old mid old.words c.in-Ok.ensures.adds) c.requires.out.1 all in
     inr (
       c.in-Some.i,
@@ -107,7 +107,7 @@ returns-in-Ok-widen-clause-few c u roots all =
     let mid = c.root_bit.new.store in
     let late = c.unblocked.new.store in
     let new = c.widen.new.store in
-    let made = finds_made u old mid _ (Ok c.in-Ok.bit) c.sound.ensures.sound.ends c.in-Ok.ensures (root_within u old c.args.roots c.args.source.at c.args.value c.requires.roots.2 roots) in
+    let made = finds_made u old mid _ (Ok c.in-Ok.bit) c.sound.ensures.sound.ends c.in-Ok.ensures (root_within u old c.args.roots c.args.source.at c.args.value (roots c.in-Some.i c.in-Some.ensures.some)) in
     let wrote = writes_added out.span old mid c.requires.out.1 c.in-Ok.ensures.adds in
     let held = span_still u out.span out.span old mid wrote (adds_words old mid old.words c.in-Ok.ensures.adds) c.requires.out.1 all in
     let found = c.in-Ok-unblocked.ensures.few u held made.within in
@@ -126,7 +126,7 @@ returns-in-Err-widen-clause-few c u roots all =
     let mid = c.root_bit.new.store in
     let late = c.unblocked.new.store in
     let new = c.widen.new.store in
-    let made = finds_made u old mid _ (Ok c.in-Ok.bit) c.sound.ensures.sound.ends c.in-Ok.ensures (root_within u old c.args.roots c.args.source.at c.args.value c.requires.roots.2 roots) in
+    let made = finds_made u old mid _ (Ok c.in-Ok.bit) c.sound.ensures.sound.ends c.in-Ok.ensures (root_within u old c.args.roots c.args.source.at c.args.value (roots c.in-Some.i c.in-Some.ensures.some)) in
     let wrote = writes_added out.span old mid c.requires.out.1 c.in-Ok.ensures.adds in
     let held = span_still u out.span out.span old mid wrote (adds_words old mid old.words c.in-Ok.ensures.adds) c.requires.out.1 all in
     let found = c.in-Ok-unblocked.ensures.few u held made.within in

@@ -2,7 +2,7 @@ use Rattle.std.proofs.Common.{◌+◌, ◌*◌, length, Err, arith}
 use Rattle.bdd_core.proofs.Results.{if_ok_more}
 use Rattle.bdd_ops.proofs.CountingLaws.{counted_then}
 use Rattle.bdd_core.proofs.Frames.{filled_beside}
-use Rattle.path_fixpoint.proofs.SpendingLaws.{span_beside, spends_behind, spends_more}
+use Rattle.path_fixpoint.proofs.SpendingLaws.{roots_beside, spends_behind, spends_more}
 use Rattle.path_fixpoint.proofs.SourceLaws.{source_paths, source_roots}
 use Rattle.path_fixpoint.specs.Parts.{pins_at, pins_of}
 use Rattle.path_fixpoint.proofs.sources.open.Goals as goal
@@ -31,7 +31,7 @@ returns-in-Err-clause-few c one u roots all =
     let old = c.args.store.now in
     let mid = c.clear.new.store in
     let cleared = c.clear.ensures.few u all in
-    let held = span_beside u out.span c.args.roots old mid c.clear.ensures.writes c.requires.words.roots_apart c.requires.words.roots_live roots in
+    let held = roots_beside u c.args.circuit.now c.args.part.now c.requires.part.1 c.args.roots c.requires.words.roots_len out.span old mid c.clear.ensures.writes c.requires.words.roots_apart c.requires.words.roots_live roots in
     spends_more u out.span (0 + n * 3) (n * 6 + r * 3) old c.add_given.new.store (Err c.in-Err.spent) (omega arith)
     (spends_behind u out.span 0 (n * 3) old mid c.add_given.new.store (Err c.in-Err.spent) cleared.counted (c.in-Err.ensures.few u held cleared.within))
 
@@ -45,10 +45,10 @@ returns-in-Err-add_holds-clause-few c one u roots all =
     let late = c.add_given.new.store in
     let cleared = c.clear.ensures.few u all in
     let wrote = c.clear.ensures.writes in
-    let held = span_beside u out.span c.args.roots old mid wrote c.requires.words.roots_apart c.requires.words.roots_live roots in
+    let held = roots_beside u c.args.circuit.now c.args.part.now c.requires.part.1 c.args.roots c.requires.words.roots_len out.span old mid wrote c.requires.words.roots_apart c.requires.words.roots_live roots in
     let live = filled_beside out.span c.args.roots old mid wrote c.requires.words.roots_apart c.requires.words.roots_live in
     let given = c.in-Ok.ensures.few u held cleared.within in
-    let held' = span_beside u out.span c.args.roots mid late c.in-Ok.ensures.writes c.requires.words.roots_apart live held in
+    let held' = roots_beside u c.args.circuit.now c.args.part.now c.requires.part.1 c.args.roots c.requires.words.roots_len out.span mid late c.in-Ok.ensures.writes c.requires.words.roots_apart live held in
     spends_more u out.span (0 + n * 3 + n * 3) (n * 6 + r * 3) old c.add_holds.new.store (Err c.in-Err-add_holds.spent) (omega arith)
     (spends_behind u out.span (0 + n * 3) (n * 3) old late c.add_holds.new.store (Err c.in-Err-add_holds.spent) (counted_then u 0 (n * 3) old mid late cleared.counted given.counts.added)
     (c.in-Err-add_holds.ensures.few one u held' given.within))
@@ -64,13 +64,13 @@ returns-clause-few c one u roots all =
     let last = c.add_holds.new.store in
     let cleared = c.clear.ensures.few u all in
     let wrote = c.clear.ensures.writes in
-    let held = span_beside u out.span c.args.roots old mid wrote c.requires.words.roots_apart c.requires.words.roots_live roots in
+    let held = roots_beside u c.args.circuit.now c.args.part.now c.requires.part.1 c.args.roots c.requires.words.roots_len out.span old mid wrote c.requires.words.roots_apart c.requires.words.roots_live roots in
     let live = filled_beside out.span c.args.roots old mid wrote c.requires.words.roots_apart c.requires.words.roots_live in
     let given = c.in-Ok.ensures.few u held cleared.within in
-    let held' = span_beside u out.span c.args.roots mid late c.in-Ok.ensures.writes c.requires.words.roots_apart live held in
+    let held' = roots_beside u c.args.circuit.now c.args.part.now c.requires.part.1 c.args.roots c.requires.words.roots_len out.span mid late c.in-Ok.ensures.writes c.requires.words.roots_apart live held in
     let live' = filled_beside out.span c.args.roots mid late c.in-Ok.ensures.writes c.requires.words.roots_apart live in
     let kept = c.in-Ok-add_holds.ensures.few one u held' given.within in
-    let held'' = span_beside u out.span c.args.roots late last c.in-Ok-add_holds.ensures.writes c.requires.words.roots_apart live' held' in
+    let held'' = roots_beside u c.args.circuit.now c.args.part.now c.requires.part.1 c.args.roots c.requires.words.roots_len out.span late last c.in-Ok-add_holds.ensures.writes c.requires.words.roots_apart live' held' in
     let count = counted_then u (0 + n * 3) (n * 3) old late last (counted_then u 0 (n * 3) old mid late cleared.counted given.counts.added) kept.counts.added in
     spends_more u out.span (0 + n * 3 + n * 3 + r * 3) (n * 6 + r * 3) old c.add_pins.new.store c.add_pins.result (omega arith)
     (spends_behind u out.span (0 + n * 3 + n * 3) (r * 3) old last c.add_pins.new.store c.add_pins.result count (c.add_pins.ensures.few u held'' kept.within))

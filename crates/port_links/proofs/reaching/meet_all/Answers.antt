@@ -1,5 +1,5 @@
 use Rattle.std.proofs.Common.{arith}
-use Rattle.port_links.proofs.ReachLaws.{met_turn}
+use Rattle.nesting.proofs.ReachedLaws.{met_turn}
 use Rattle.port_links.proofs.reaching.meet_all.Goals as goal
 
 pub loop-number-preserved : goal.loop-number-preserved

@@ -1,5 +1,5 @@
 use Rattle.std.proofs.Common.{take}
-use Rattle.port_links.specs.Reached.{HasMet}
+use Rattle.nesting.specs.Reached.{HasMet}
 use Rattle.port_links.proofs.reaching.meet_all.Given as goal
 
 -- the numbers so far are met

@@ -1,10 +1,7 @@
 use Rattle.std.proofs.Common.{arith, refl}
-use Rattle.prepared_tables.proofs.NotedLaws.{all_noted, more_noted, none_noted}
+use Rattle.prepared_tables.proofs.NotedLaws.{all_noted, more_noted}
 use Rattle.prepared_tables.specs.ModelNames.{low_name}
 use Rattle.prepared_tables.proofs.by_name.add_all_lowered.Goals as goal
-
-pub loop-place-init : goal.loop-place-init
-loop-place-init c = none_noted low_name c.args.models.now _ c.requires.empty
 
 pub loop-place-preserved : goal.loop-place-preserved
 loop-place-preserved c =

@@ -1,7 +1,7 @@
 use Rattle.std.proofs.Common.{◌≡◌, ℕ, List, drop}
 use Rattle.std.specs.Option.{option_or}
 use Rattle.rule_index.proofs.CellLaws.{from}
-use Rattle.rule_index.specs.Firsts.{IsEven, value_in}
+use Rattle.name_tables.specs.Firsts.{IsEven, value_in}
 use Rattle.rule_index.specs.Tables.{cell_numbered}
 use Rattle.rule_index.proofs.cells.note_cells.Given as goal
 

@@ -1,0 +1,2 @@
+pub mod FirstNotes
+pub mod TableLaws
