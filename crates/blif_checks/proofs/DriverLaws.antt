@@ -1,5 +1,5 @@
 -- What drives signals and what uses them.
-use Rattle.std.proofs.Common.{◌≡◌, ◌<◌, ◌++◌, ◌∷◌, ◌&&◌, ◌||◌, [], ℕ, zero, suc, List, Bool, true, false, cond, not, map, flat_map, length, get_or, Option, Some, None, option_map, refl, ap, ap₂, sym, ◌∙◌, subst, take, drop, arith, append-nil, append_assoc}
+use Rattle.std.proofs.Common.{◌≡◌, inl, inr, ◌<◌, ◌++◌, ◌∷◌, ◌&&◌, ◌||◌, [], ℕ, zero, suc, List, Bool, true, false, cond, not, map, flat_map, length, get_or, Option, Some, None, option_map, refl, ap, ap₂, sym, ◌∙◌, subst, take, drop, arith, append-nil, append_assoc}
 use Rattle.std.specs.Prelude.{◌==◌, All, bytes_eq, filter, find, is_none, is_some, nat_lt, position, slice_get, unwrap_or}
 use Rattle.std.specs.List.{list_any}
 use Rattle.std.proofs.Math.Seq.{take-append_seam}
@@ -8,7 +8,7 @@ use Rattle.std.proofs.lemmas.Bool.Decides.{nat_tests}
 use Rattle.std.proofs.lemmas.List.{take-append-drop}
 use Rattle.std.proofs.lemmas.List.Elements.{All-get_or}
 use Rattle.std.proofs.lemmas.List.Folds.{list_any-append}
-use Rattle.std.proofs.lemmas.Option.{get_or_from_slice_get, same_Some, slice_get-map, slice_get_within}
+use Rattle.std.proofs.lemmas.Option.{get_or_from_slice_get, slice_get_within}
 use Rattle.std.proofs.lemmas.List.Quantifiers.{position-Some}
 use Rattle.vrt_model.proofs.Tests.{bytes_eq-sym}
 use Rattle.vrt_model.specs.Lists.{distinct, has_name}
@@ -24,14 +24,14 @@ use Rattle.vrt_model.specs.declared.blif.LatchLine.{LatchLine}
 use Rattle.vrt_model.specs.declared.blif.SubLine.{SubLine}
 use Rattle.vrt_model.specs.declared.blif.Tie.{Tie}
 use Rattle.blif_checks.specs.Drivers.{AreClocks, at_earlier, latch_uses, others}
-use Rattle.blif_checks.specs.Tables.{AreTables}
+use Rattle.blif_checks.specs.Tables.{AreTables, IsInterfaceSet}
 use Rattle.blif_checks.specs.declared.mentions.Mention.{Mention}
 use Rattle.blif_checks.specs.declared.tables.Tables.{Tables}
 use Rattle.blif_checks.proofs.MentionLaws.{joined}
 use Rattle.names.proofs.PlaceLaws.{any_placed, place_cons}
 use Rattle.blif_checks.proofs.NoteLaws.{lt_no}
 use Rattle.names.proofs.ApartLaws.{apart_named}
-use Rattle.blif_checks.proofs.NameLaws.{place_is}
+use Rattle.blif_checks.proofs.NameLaws.{interface_there, no_interface, no_model, place_is}
 
 -- ---- the line of a listed name
 
@@ -153,29 +153,24 @@ inputs_first m is =
 model_there : (models : List BlifModel) (n : ℕ) (m : BlifModel) → slice_get models n ≡ Some m → All IsModel models → IsModel m
 model_there models n m here are = subst IsModel (get_or_from_slice_get models n m m here) (All-get_or IsModel models n m (slice_get_within models n m here) are)
 
-interface_of_number : (blif : Blif) (tables : Tables) (n : ℕ) → AreTables blif tables → slice_get tables.interfaces n ≡ option_map (λ (m : BlifModel). distinct (interface_of m)) (slice_get blif.models n)
-interface_of_number blif tables n are =
-    ap (λ (xs : List (List (List ℕ))). slice_get xs n) are.interfaces ∙ slice_get-map (λ (m : BlifModel). distinct (interface_of m)) blif.models n
-
+-- where a set of an interface is not empty
 pub input_is : (blif : Blif) (tables : Tables) (clocks : List (List (List ℕ))) (n : ℕ) (names : List (List ℕ)) (name : List ℕ) → AreTables blif tables → AreClocks blif clocks
-    → slice_get tables.interfaces n ≡ Some names → has_name (take (length (model_at blif n).inputs) names) name ≡ has_name (model_at blif n).inputs name
-input_is blif tables clocks n names name are is at = by_model (slice_get blif.models n) refl where
+    → slice_get tables.interfaces n ≡ Some names → (length names == 0) ≡ false → has_name (take (length (model_at blif n).inputs) names) name ≡ has_name (model_at blif n).inputs name
+input_is blif tables clocks n names name are is at some = by_model (slice_get blif.models n) refl where
+  first_in : (m : BlifModel) → IsModel m → (names : List (List ℕ)) → IsInterfaceSet m names → (length names == 0) ≡ false → has_name (take (length m.inputs) names) name ≡ has_name m.inputs name
+  first_in m one [] (inl e) some = cc
+  first_in m one (x ∷ names) (inl e) some = cc
+  first_in m one names (inr e) some = ap (λ (ns : List (List ℕ)). has_name (take (length m.inputs) ns) name) e ∙ ap (λ (ns : List (List ℕ)). has_name ns name) (inputs_first m one)
+
   by_model : (o : Option BlifModel) → slice_get blif.models n ≡ o → has_name (take (length (model_at blif n).inputs) names) name ≡ has_name (model_at blif n).inputs name
-  by_model None here =
-      let never : Some names ≡ None = sym at ∙ interface_of_number blif tables n are ∙ ap (option_map (λ (m : BlifModel). distinct (interface_of m))) here in cc
+  by_model None here = absurd (no_interface blif tables n names are at here)
   by_model (Some m) here =
-      let same : names ≡ distinct (interface_of m) =
-      same_Some names (distinct (interface_of m)) (sym at ∙ interface_of_number blif tables n are ∙ ap (option_map (λ (m : BlifModel). distinct (interface_of m))) here) in
       let is_m : model_at blif n ≡ m = ap (λ (o : Option BlifModel). unwrap_or o (record { line = 0; name = []; inputs = []; input_lines = []; clocks = []; clock_lines = []; outputs = []; output_lines = []; covers = []; latches = []; subs = []; exdc = [] })) here in
-      ap₂ (λ (x : BlifModel) (ns : List (List ℕ)). has_name (take (length x.inputs) ns) name) is_m same
-      ∙ ap (λ (ns : List (List ℕ)). has_name ns name) (inputs_first m (model_there blif.models n m here is.models)) ∙ ap (λ (x : BlifModel). has_name x.inputs name) (sym is_m)
+      ap (λ (x : BlifModel). has_name (take (length x.inputs) names) name) is_m
+      ∙ first_in m (model_there blif.models n m here is.models) names (interface_there blif tables n m names are here at) some ∙ ap (λ (x : BlifModel). has_name x.inputs name) (sym is_m)
 
 pub input_none : (blif : Blif) (tables : Tables) (n : ℕ) (name : List ℕ) → AreTables blif tables → slice_get tables.interfaces n ≡ None → has_name (model_at blif n).inputs name ≡ false
-input_none blif tables n name are at = by_model (slice_get blif.models n) refl where
-  by_model : (o : Option BlifModel) → slice_get blif.models n ≡ o → has_name (model_at blif n).inputs name ≡ false
-  by_model None here = ap (λ (o : Option BlifModel). has_name (unwrap_or o (record { line = 0; name = []; inputs = []; input_lines = []; clocks = []; clock_lines = []; outputs = []; output_lines = []; covers = []; latches = []; subs = []; exdc = [] })).inputs name) here
-  by_model (Some m) here =
-      let never : None ≡ Some (distinct (interface_of m)) = sym at ∙ interface_of_number blif tables n are ∙ ap (option_map (λ (m : BlifModel). distinct (interface_of m))) here in cc
+input_none blif tables n name are at = ap (λ (m : BlifModel). has_name m.inputs name) (no_model blif tables n are at)
 
 -- the clocks of the models of a file
 pub clocks_given : (blif : Blif) (listed clocks : List (List (List ℕ))) (models : List BlifModel) → IsBlif blif → clocks ≡ listed → listed ≡ map (λ (m : BlifModel). distinct m.clocks) models → models ≡ blif.models → AreClocks blif clocks
@@ -191,13 +186,6 @@ clocks_at blif tables clocks name f number are is n =
     ∙ ap (λ (ns : List (List ℕ)). has_name ns f) (list_at (λ (m : BlifModel). distinct m.clocks) blif.models (model_numbered blif name) refl)
     ∙ once_has_same (model_at blif (model_numbered blif name)).clocks f
 
-interface_at : (blif : Blif) (tables : Tables) (name f : List ℕ) (number : ℕ) → AreTables blif tables → number ≡ unwrap_or (position (bytes_eq name) tables.names) 0
-    → has_name (get_or tables.interfaces number []) f ≡ has_name (interface_of (model_at blif (model_numbered blif name))) f
-interface_at blif tables name f number are n =
-    ap₂ (λ (xs : List (List (List ℕ))) k. has_name (get_or xs k []) f) are.interfaces (n ∙ ap (λ (o : Option ℕ). unwrap_or o 0) (place_is blif tables name are))
-    ∙ ap (λ (ns : List (List ℕ)). has_name ns f) (list_at (λ (m : BlifModel). distinct (interface_of m)) blif.models (model_numbered blif name) refl)
-    ∙ once_has_same (interface_of (model_at blif (model_numbered blif name))) f
-
 pub reading_is : (blif : Blif) (tables : Tables) (clocks : List (List (List ℕ))) (s : SubLine) (t : Tie) (name f : List ℕ) (number : ℕ) → AreTables blif tables → AreClocks blif clocks → name ≡ s.model → f ≡ t.formal
     → number ≡ unwrap_or (position (bytes_eq name) tables.names) 0 → (has_name (model_at blif number).inputs f || has_name (get_or clocks number []) f) ≡ is_reading blif s t
 reading_is blif tables clocks s t name f number are is sn fn n =
@@ -208,10 +196,10 @@ reading_is blif tables clocks s t name f number are is sn fn n =
     ∙ sym (list_any-append (bytes_eq t.formal) m.inputs m.clocks)
 
 pub driving_is : (blif : Blif) (tables : Tables) (s : SubLine) (t : Tie) (name f : List ℕ) (number : ℕ) → AreTables blif tables → name ≡ s.model → f ≡ t.formal
-    → number ≡ unwrap_or (position (bytes_eq name) tables.names) 0 → (has_name (get_or tables.interfaces number []) f && not (is_reading blif s t)) ≡ is_driving blif s t
+    → number ≡ unwrap_or (position (bytes_eq name) tables.names) 0 → (has_name (interface_of (model_at blif number)) f && not (is_reading blif s t)) ≡ is_driving blif s t
 driving_is blif tables s t name f number are sn fn n =
     ap (λ a. a && not (is_reading blif s t))
-    (ap (has_name (get_or tables.interfaces number [])) fn ∙ interface_at blif tables s.model t.formal number are (n ∙ ap (λ (x : List ℕ). unwrap_or (position (bytes_eq x) tables.names) 0) sn)
+    (ap₂ (λ (k : ℕ) (x : List ℕ). has_name (interface_of (model_at blif k)) x) (n ∙ ap (λ (x : List ℕ). unwrap_or (position (bytes_eq x) tables.names) 0) sn ∙ ap (λ (o : Option ℕ). unwrap_or o 0) (place_is blif tables s.model are)) fn
     ∙ list_any-append (bytes_eq t.formal) ((model_at blif (model_numbered blif s.model)).inputs ++ (model_at blif (model_numbered blif s.model)).clocks) (model_at blif (model_numbered blif s.model)).outputs)
     ∙ by_tests (is_reading blif s t) (has_name (model_at blif (model_numbered blif s.model)).outputs t.formal) where
       by_tests : (r o : Bool) → ((r || o) && not r) ≡ (o && not r)

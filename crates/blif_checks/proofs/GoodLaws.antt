@@ -1,22 +1,28 @@
--- Notes without a bad mention, and a network without covers.
-use Rattle.std.proofs.Common.{◌≡◌, ◌≤◌, ◌+◌, ◌++◌, ◌∷◌, ◌&&◌, ◌||◌, [], ℕ, zero, suc, List, Bool, true, false, cond, not, map, length, Option, Some, None, option_map, refl, ap, ap₂, sym, ◌∙◌, subst, arith, append-nil}
-use Rattle.std.specs.Prelude.{◌==◌, bytes_eq, filter, find, is_none, is_some, min, nat_lt, slice_get, unwrap_or}
+-- Notes without a bad mention, names that only inputs and clocks have, and a network without covers.
+use Rattle.std.proofs.Common.{◌≡◌, ◌≤◌, ◌+◌, ◌++◌, ◌∷◌, ◌&&◌, ◌||◌, [], ℕ, zero, suc, List, Bool, true, false, cond, not, map, flat_map, length, Option, Some, None, option_map, refl, ap, ap₂, sym, ◌∙◌, subst, arith, append-nil}
+use Rattle.std.specs.Prelude.{◌==◌, bytes_eq, filter, find, is_none, is_some, min, nat_lt, option_to_list, slice_get, unwrap_or}
 use Rattle.std.specs.List.{list_all, list_any}
 use Rattle.std.specs.Option.{option_or}
-use Rattle.std.proofs.lemmas.Bool.{and_parts, eqb-true}
+use Rattle.std.proofs.lemmas.Bool.{and_parts, eqb-true, or_parts}
 use Rattle.std.proofs.lemmas.List.{length-append}
-use Rattle.std.proofs.lemmas.List.Elements.{filter-append}
+use Rattle.std.proofs.lemmas.List.Elements.{All-nil, filter-append}
+use Rattle.std.proofs.lemmas.List.Folds.{list_any-append}
 use Rattle.std.proofs.lemmas.Slice.Eq.{bytes_eq-Decides}
-use Rattle.vrt_model.specs.Inputs.{IsModel}
+use Rattle.vrt_model.specs.FlatBlif.{cover_signals, latch_signals, sub_signals}
+use Rattle.vrt_model.specs.Inputs.{IsCoverLine, IsModel}
 use Rattle.vrt_model.specs.Lists.{At, has_name}
-use Rattle.vrt_model.specs.Models.{Never, OnLine, Twice, count_lines, drivers_in, drivers_of_name, fault_on, is_driven_twice_on, is_least_bad, is_undriven_on, line_in, lines_of, listed_inputs, names_on, network_of, on_line, on_lines, own_fault, uses_of_name}
+use Rattle.vrt_model.specs.Models.{Never, OnLine, Twice, count_lines, drivers_of_name, fault_on, is_driven_twice_on, is_driving, is_least_bad, is_reading, is_undriven_on, line_in, lines_of, listed_inputs, names_on, network_of, on_line, on_lines, own_fault, ties_on, uses_of_name}
 use Rattle.vrt_model.specs.declared.blif.Blif.{Blif}
 use Rattle.vrt_model.specs.declared.blif.BlifModel.{BlifModel}
 use Rattle.vrt_model.specs.declared.blif.CoverLine.{CoverLine}
+use Rattle.vrt_model.specs.declared.blif.LatchLine.{LatchLine}
+use Rattle.vrt_model.specs.declared.blif.SubLine.{SubLine}
+use Rattle.vrt_model.specs.declared.blif.Tie.{Tie}
 use Rattle.vrt_model.proofs.Tests.{bytes_eq-sym}
 use Rattle.names.proofs.ApartLaws.{NoRepeat, once_by}
-use Rattle.blif_checks.specs.Least.{is_bad, of_driver}
+use Rattle.blif_checks.specs.Least.{IsQuiet, is_bad, of_driver}
 use Rattle.blif_checks.specs.Notes.{is_good, is_line, option_is}
+use Rattle.blif_checks.specs.Signals.{named_beside}
 use Rattle.blif_checks.specs.declared.mentions.Mention.{Mention}
 use Rattle.blif_checks.specs.declared.notes.Note.{Note}
 use Rattle.blif_checks.proofs.DriverLaws.{none_listed}
@@ -132,13 +138,111 @@ driven_once m name is =
       others_few : {a b c : ℕ} → a ≤ b → b ≤ c → c ≤ 1 → a ≤ 1
       others_few p q r = omega (arith, p, q, r)
 
--- ---- a network without covers
+-- ---- a name that stands on no card but those of inputs and clocks
 
-abbrev bare : BlifModel → BlifModel
-bare m = record m { outputs = []; output_lines = []; covers = []; latches = []; subs = []; exdc = [] }
+-- by the names of the cards
+cards_none : {X : Type 0} (f : X → List OnLine) (g : X → List (List ℕ)) (name : List ℕ) (xs : List X) → ((x : X) → has_name (g x) name ≡ false → filter (of_name name) (f x) ≡ [])
+    → has_name (flat_map g xs) name ≡ false → filter (of_name name) (flat_map f xs) ≡ []
+cards_none f g name [] each e = refl
+cards_none f g name (x ∷ xs) each e =
+    let both = or_parts (has_name (g x) name) (has_name (flat_map g xs) name) (sym (list_any-append (bytes_eq name) (g x) (flat_map g xs)) ∙ e) in
+    filter-append (of_name name) (f x) (flat_map f xs) ∙ ap₂ ◌++◌ (each x both.0) (cards_none f g name xs each both.1)
 
-bare_drivers : (blif : Blif) (m : BlifModel) → drivers_in blif (bare m) ≡ listed_inputs m
-bare_drivers blif m = append-nil ((listed_inputs m ++ []) ++ []) ∙ append-nil (listed_inputs m ++ []) ∙ append-nil (listed_inputs m)
+outputs_none : {X : Type 0} (f : X → OnLine) (g : X → List (List ℕ)) (name : List ℕ) (xs : List X) → ((x : X) → has_name (g x) name ≡ false → bytes_eq name (f x).name ≡ false)
+    → has_name (flat_map g xs) name ≡ false → filter (of_name name) (map f xs) ≡ []
+outputs_none f g name [] each e = refl
+outputs_none f g name (x ∷ xs) each e =
+    let both = or_parts (has_name (g x) name) (has_name (flat_map g xs) name) (sym (list_any-append (bytes_eq name) (g x) (flat_map g xs)) ∙ e) in
+    ap (λ b. cond b (f x ∷ filter (of_name name) (map f xs)) (filter (of_name name) (map f xs))) (bytes_eq-sym (f x).name name ∙ each x both.0) ∙ outputs_none f g name xs each both.1
+
+signals_none : (line : ℕ) (name : List ℕ) (signals : List (List ℕ)) → has_name signals name ≡ false → filter (of_name name) (map (on_line line) signals) ≡ []
+signals_none line name [] e = refl
+signals_none line name (s ∷ signals) e =
+    let both = or_parts (bytes_eq name s) (has_name signals name) e in
+    ap (λ b. cond b (on_line line s ∷ filter (of_name name) (map (on_line line) signals)) (filter (of_name name) (map (on_line line) signals))) (bytes_eq-sym s name ∙ both.0)
+    ∙ signals_none line name signals both.1
+
+listed_none : (name : List ℕ) (names : List (List ℕ)) (lines : List ℕ) → has_name names name ≡ false → filter (of_name name) (on_lines names lines) ≡ []
+listed_none name [] lines e = refl
+listed_none name (x ∷ names) [] e = refl
+listed_none name (x ∷ names) (l ∷ lines) e =
+    let both = or_parts (bytes_eq name x) (has_name names name) e in
+    ap (λ b. cond b (on_line l x ∷ filter (of_name name) (on_lines names lines)) (filter (of_name name) (on_lines names lines))) (bytes_eq-sym x name ∙ both.0) ∙ listed_none name names lines both.1
+
+ties_none : (test : Tie → Bool) (line : ℕ) (name : List ℕ) (ties : List Tie) → has_name (map (λ (t : Tie). t.actual) ties) name ≡ false
+    → filter (of_name name) (map (λ (t : Tie). on_line line t.actual) (filter test ties)) ≡ []
+ties_none test line name [] e = refl
+ties_none test line name (t ∷ ties) e =
+    let both = or_parts (bytes_eq name t.actual) (has_name (map (λ (t : Tie). t.actual) ties) name) e in
+    by_test (test t) (bytes_eq-sym t.actual name ∙ both.0) (ties_none test line name ties both.1) where
+      by_test : (b : Bool) → bytes_eq t.actual name ≡ false → filter (of_name name) (map (λ (t : Tie). on_line line t.actual) (filter test ties)) ≡ []
+          → filter (of_name name) (map (λ (t : Tie). on_line line t.actual) (cond b (t ∷ filter test ties) (filter test ties))) ≡ []
+      by_test true h rest =
+          ap (λ c. cond c (on_line line t.actual ∷ filter (of_name name) (map (λ (t : Tie). on_line line t.actual) (filter test ties))) (filter (of_name name) (map (λ (t : Tie). on_line line t.actual) (filter test ties)))) h
+          ∙ rest
+      by_test false h rest = rest
+
+none_joined : (name : List ℕ) (xs ys : List OnLine) → filter (of_name name) xs ≡ [] → filter (of_name name) ys ≡ [] → filter (of_name name) (xs ++ ys) ≡ []
+none_joined name xs ys e f = filter-append (of_name name) xs ys ∙ ap₂ ◌++◌ e f
+
+behind_none : (name : List ℕ) (xs ys : List OnLine) → filter (of_name name) ys ≡ [] → filter (of_name name) (xs ++ ys) ≡ filter (of_name name) xs
+behind_none name xs ys e = filter-append (of_name name) xs ys ∙ ap (λ (kept : List OnLine). filter (of_name name) xs ++ kept) e ∙ append-nil (filter (of_name name) xs)
+
+-- a name stands beside the inputs and clocks on no card
+record IsAbsent (m : BlifModel) (name : List ℕ) : Type 0 where
+  outputs : has_name m.outputs name ≡ false
+  covers : has_name (flat_map cover_signals m.covers) name ≡ false
+  latches : has_name (flat_map latch_signals m.latches) name ≡ false
+  subs : has_name (flat_map sub_signals m.subs) name ≡ false
+
+absent : (m : BlifModel) (name : List ℕ) → has_name (named_beside m) name ≡ false → IsAbsent m name
+absent m name e =
+    let d = or_parts (has_name (m.outputs ++ flat_map cover_signals m.covers ++ flat_map latch_signals m.latches) name) (has_name (flat_map sub_signals m.subs) name)
+    (sym (list_any-append (bytes_eq name) (m.outputs ++ flat_map cover_signals m.covers ++ flat_map latch_signals m.latches) (flat_map sub_signals m.subs)) ∙ e) in
+    let c = or_parts (has_name (m.outputs ++ flat_map cover_signals m.covers) name) (has_name (flat_map latch_signals m.latches) name)
+    (sym (list_any-append (bytes_eq name) (m.outputs ++ flat_map cover_signals m.covers) (flat_map latch_signals m.latches)) ∙ d.0) in
+    let b = or_parts (has_name m.outputs name) (has_name (flat_map cover_signals m.covers) name) (sym (list_any-append (bytes_eq name) m.outputs (flat_map cover_signals m.covers)) ∙ c.0) in
+    record { outputs = b.0; covers = b.1; latches = c.1; subs = d.1 }
+
+-- of a cover its inputs and its output
+cover_parts : (c : CoverLine) (name : List ℕ) → has_name (cover_signals c) name ≡ false → (has_name c.inputs name ≡ false) × (bytes_eq name c.output ≡ false)
+cover_parts c name e =
+    let both = or_parts (has_name c.inputs name) (has_name (c.output ∷ []) name) (sym (list_any-append (bytes_eq name) c.inputs (c.output ∷ [])) ∙ e) in
+    (both.0, (or_parts (bytes_eq name c.output) false both.1).0)
+
+-- of a latch its input and its control, and its output
+latch_parts : (l : LatchLine) (name : List ℕ) → has_name (latch_signals l) name ≡ false → (has_name (l.input ∷ option_to_list l.control) name ≡ false) × (bytes_eq name l.output ≡ false)
+latch_parts l name e =
+    let input = or_parts (bytes_eq name l.input) (has_name (l.output ∷ option_to_list l.control) name) e in
+    let output = or_parts (bytes_eq name l.output) (has_name (option_to_list l.control) name) input.1 in
+    (ap₂ (λ a b. a || b) input.0 output.1, output.0)
+
+-- nothing but inputs and clocks drives it
+drivers_beside : (blif : Blif) (m : BlifModel) (name : List ℕ) → IsAbsent m name → drivers_of_name blif m name ≡ filter (of_name name) (listed_inputs m)
+drivers_beside blif m name is =
+    behind_none name (listed_inputs m ++ map (λ (c : CoverLine). on_line c.line c.output) m.covers ++ map (λ (l : LatchLine). on_line l.line l.output) m.latches)
+    (flat_map (λ (s : SubLine). ties_on (is_driving blif s) s) m.subs)
+    (cards_none (λ (s : SubLine). ties_on (is_driving blif s) s) sub_signals name m.subs (λ s e. ties_none (is_driving blif s) s.line name s.ties e) is.subs)
+    ∙ behind_none name (listed_inputs m ++ map (λ (c : CoverLine). on_line c.line c.output) m.covers) (map (λ (l : LatchLine). on_line l.line l.output) m.latches)
+    (outputs_none (λ (l : LatchLine). on_line l.line l.output) latch_signals name m.latches (λ l e. (latch_parts l name e).1) is.latches)
+    ∙ behind_none name (listed_inputs m) (map (λ (c : CoverLine). on_line c.line c.output) m.covers)
+    (outputs_none (λ (c : CoverLine). on_line c.line c.output) cover_signals name m.covers (λ c e. (cover_parts c name e).1) is.covers)
+
+-- and nothing uses it
+uses_beside : (blif : Blif) (m : BlifModel) (name : List ℕ) → IsAbsent m name → uses_of_name blif m name ≡ []
+uses_beside blif m name is =
+    none_joined name
+    (flat_map (λ (c : CoverLine). map (on_line c.line) c.inputs) m.covers ++ flat_map (λ (l : LatchLine). map (on_line l.line) (l.input ∷ option_to_list l.control)) m.latches
+    ++ flat_map (λ (s : SubLine). ties_on (is_reading blif s) s) m.subs)
+    (on_lines m.outputs m.output_lines)
+    (none_joined name (flat_map (λ (c : CoverLine). map (on_line c.line) c.inputs) m.covers ++ flat_map (λ (l : LatchLine). map (on_line l.line) (l.input ∷ option_to_list l.control)) m.latches)
+    (flat_map (λ (s : SubLine). ties_on (is_reading blif s) s) m.subs)
+    (none_joined name (flat_map (λ (c : CoverLine). map (on_line c.line) c.inputs) m.covers) (flat_map (λ (l : LatchLine). map (on_line l.line) (l.input ∷ option_to_list l.control)) m.latches)
+    (cards_none (λ (c : CoverLine). map (on_line c.line) c.inputs) cover_signals name m.covers (λ c e. signals_none c.line name c.inputs (cover_parts c name e).0) is.covers)
+    (cards_none (λ (l : LatchLine). map (on_line l.line) (l.input ∷ option_to_list l.control)) latch_signals name m.latches
+    (λ l e. signals_none l.line name (l.input ∷ option_to_list l.control) (latch_parts l name e).0) is.latches))
+    (cards_none (λ (s : SubLine). ties_on (is_reading blif s) s) sub_signals name m.subs (λ s e. ties_none (is_reading blif s) s.line name s.ties e) is.subs))
+    (listed_none name m.outputs m.output_lines is.outputs)
 
 counted : (p : OnLine → Bool) (os : List OnLine) → length (filter p os) ≤ length os
 counted p [] = omega arith
@@ -147,19 +251,44 @@ counted p (o ∷ os) = by_test (p o) (filter p os) (counted p os) where
   by_test true kept le = omega (arith, le)
   by_test false kept le = omega (arith, le)
 
-not_twice : (blif : Blif) (m : BlifModel) (line : ℕ) (name : List ℕ) → IsModel m → is_driven_twice_on blif (bare m) line name ≡ false
-not_twice blif m line name is =
-    let drivers : List OnLine = drivers_of_name blif (bare m) name in
-    let few : length (drivers_of_name blif (bare m) name) ≤ 1 = subst (λ (os : List OnLine). length (filter (of_name name) os) ≤ 1) (sym (bare_drivers blif m)) (driven_once m name is) in
-    let count : length (filter (λ (o : OnLine). not (nat_lt line o.line)) (drivers_of_name blif (bare m) name)) ≤ length (drivers_of_name blif (bare m) name) =
-    counted (λ (o : OnLine). not (nat_lt line o.line)) (drivers_of_name blif (bare m) name) in
-    let le : length (filter (λ (o : OnLine). not (nat_lt line o.line)) (drivers_of_name blif (bare m) name)) ≤ 1 = omega (arith, few, count) in
-    ap (λ a. (a && nat_lt (count_lines (λ l. nat_lt l line) drivers) 2) && list_any (λ (o : OnLine). o.line == line) drivers)
-    (lt_no 1 (length (filter (λ (o : OnLine). not (nat_lt line o.line)) (drivers_of_name blif (bare m) name))) le)
+not_twice : (drivers : List OnLine) (line : ℕ) → length drivers ≤ 1
+    → (nat_lt 1 (count_lines (λ l. not (nat_lt line l)) drivers) && nat_lt (count_lines (λ l. nat_lt l line) drivers) 2 && list_any (λ (o : OnLine). o.line == line) drivers) ≡ false
+not_twice drivers line few =
+    let count : length (filter (λ (o : OnLine). not (nat_lt line o.line)) drivers) ≤ length drivers = counted (λ (o : OnLine). not (nat_lt line o.line)) drivers in
+    let le : length (filter (λ (o : OnLine). not (nat_lt line o.line)) drivers) ≤ 1 = omega (arith, few, count) in
+    ap (λ a. (a && nat_lt (count_lines (λ l. nat_lt l line) drivers) 2) && list_any (λ (o : OnLine). o.line == line) drivers) (lt_no 1 (length (filter (λ (o : OnLine). not (nat_lt line o.line)) drivers)) le)
 
 not_used : (a b : Bool) → ((a && false) && b) ≡ false
 not_used true b = refl
 not_used false b = refl
+
+-- it has no fault: it is driven once, or not at all, and not used
+pub quiet_beside : (blif : Blif) (m : BlifModel) (name : List ℕ) → IsModel m → has_name (named_beside m) name ≡ false → IsQuiet blif m name
+quiet_beside blif m name is e = record {
+  once = λ line.
+      not_twice (drivers_of_name blif m name) line (subst (λ (os : List OnLine). length os ≤ 1) (sym (drivers_beside blif m name (absent m name e))) (driven_once m name is));
+  unused = λ line.
+      ap (λ (us : List OnLine). (is_none (slice_get (drivers_of_name blif m name) 0) && list_any (λ (o : OnLine). o.line == line) us) && (count_lines (λ l. nat_lt l line) us == 0)) (uses_beside blif m name (absent m name e))
+      ∙ not_used (is_none (slice_get (drivers_of_name blif m name) 0)) (count_lines (λ l. nat_lt l line) [] == 0);
+}
+
+-- ---- a network without covers
+
+abbrev bare : BlifModel → BlifModel
+bare m = record m { outputs = []; output_lines = []; covers = []; latches = []; subs = []; exdc = [] }
+
+bare_is : (m : BlifModel) → IsModel m → IsModel (bare m)
+bare_is m is = record {
+  inputs = is.inputs;
+  clocks = is.clocks;
+  outputs = λ i j x y at. cc;
+  input_lines = is.input_lines;
+  clock_lines = is.clock_lines;
+  output_lines = refl;
+  covers = All-nil IsCoverLine;
+  latches = All-nil (λ (l : LatchLine). l.init ≤ 3);
+  exdc = All-nil IsCoverLine;
+}
 
 find_none : (p : List ℕ → Bool) (names : List (List ℕ)) → ((name : List ℕ) → p name ≡ false) → find p names ≡ None
 find_none p [] none = refl
@@ -167,9 +296,10 @@ find_none p (x ∷ names) none = ap (λ b. cond b (Some x) (find p names)) (none
 
 bare_line : (blif : Blif) (m : BlifModel) (line : ℕ) → IsModel m → fault_on blif (bare m) line ≡ None
 bare_line blif m line is =
+    let quiet : (name : List ℕ) → IsQuiet blif (bare m) name = λ name. quiet_beside blif (bare m) name (bare_is m is) refl in
     ap₂ (λ a b. option_or (option_map (λ (name : List ℕ). Twice line name) a) (option_map (λ (name : List ℕ). Never line name) b))
-    (find_none (is_driven_twice_on blif (bare m) line) (names_on (bare m) line) (λ name. not_twice blif m line name is))
-    (find_none (is_undriven_on blif (bare m) line) (names_on (bare m) line) (λ name. not_used (is_none (slice_get (drivers_of_name blif (bare m) name) 0)) (count_lines (λ l. nat_lt l line) (uses_of_name blif (bare m) name) == 0)))
+    (find_none (is_driven_twice_on blif (bare m) line) (names_on (bare m) line) (λ name. (quiet name).once line))
+    (find_none (is_undriven_on blif (bare m) line) (names_on (bare m) line) (λ name. (quiet name).unused line))
 
 none_of : (covers : List CoverLine) → (length covers == 0) ≡ true → covers ≡ []
 none_of [] e = refl

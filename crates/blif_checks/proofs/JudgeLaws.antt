@@ -1,9 +1,8 @@
 -- The calls that judge the mentions of a model, and the models.
-use Rattle.std.proofs.Common.{◌≡◌, ◌<◌, ◌≤◌, ◌+◌, ◌++◌, ◌∷◌, ◌&&◌, ◌||◌, inl, inr, [], ℕ, zero, suc, List, Bool, true, false, cond, map, flat_map, take, drop, length, get_or, Option, Some, None, option_map, refl, ap, ap₂, sym, ◌∙◌, subst, arith}
-use Rattle.std.specs.Prelude.{◌⊎◌, ◌==◌, bytes_eq, filter_map, find, nat_le, nat_lt, slice_get, Result, Ok, Err}
+use Rattle.std.proofs.Common.{◌≡◌, ◌<◌, ◌≤◌, ◌+◌, ◌++◌, ◌∷◌, ◌&&◌, ◌||◌, inl, inr, [], ℕ, zero, suc, List, Bool, true, false, cond, map, take, drop, length, get_or, Option, Some, None, option_map, refl, ap, ap₂, sym, ◌∙◌, subst, arith}
+use Rattle.std.specs.Prelude.{◌⊎◌, ◌==◌, filter_map, find, nat_le, nat_lt, slice_get, Result, Ok, Err}
 use Rattle.std.specs.List.{cons_option}
 use Rattle.std.proofs.lemmas.Bool.{leb-true, leb-false}
-use Rattle.std.proofs.lemmas.Slice.Eq.{bytes_eq-Decides}
 use Rattle.std.proofs.lemmas.List.{drop_all, take_more}
 use Rattle.std.proofs.lemmas.List.Elements.{All-get_or, All-nil}
 use Rattle.std.proofs.lemmas.Option.{get_or_from_slice_get, same_Some, slice_get_within}
@@ -11,21 +10,19 @@ use Rattle.vrt_model.proofs.Lists.{at_front, at_last, drop_one}
 use Rattle.vrt_model.specs.Lists.{At, has_name}
 use Rattle.names.specs.Names.{with_names}
 use Rattle.names.proofs.NameLaws.{names_once, once_has_same}
-use Rattle.vrt_model.specs.FlatBlif.{cover_signals, latch_signals, sub_signals}
 use Rattle.vrt_model.specs.Inputs.{IsBlif, IsCoverLine, IsModel}
-use Rattle.vrt_model.specs.Models.{DriverFault, Never, OnLine, Twice, driver_fault, driver_fault_in, drivers_in, earlier_fault, line_of_fault, network_of, on_line, on_lines, uses_in}
+use Rattle.vrt_model.specs.Models.{DriverFault, Never, Twice, driver_fault, driver_fault_in, drivers_in, earlier_fault, line_of_fault, network_of, uses_in}
 use Rattle.vrt_model.specs.declared.blif.Blif.{Blif}
 use Rattle.vrt_model.specs.declared.blif.BlifModel.{BlifModel}
-use Rattle.vrt_model.specs.declared.blif.CoverLine.{CoverLine}
 use Rattle.vrt_model.specs.declared.blif.LatchLine.{LatchLine}
-use Rattle.vrt_model.specs.declared.blif.SubLine.{SubLine}
 use Rattle.blif_checks.specs.Least.{AreNotesOf, IsLeastLine, IsOnLine, earlier_line, is_bad, of_driver, passes_on}
-use Rattle.blif_checks.specs.Mentions.{cover_mentions, latch_mentions, mentions_in, numbered, sub_mentions}
+use Rattle.blif_checks.specs.Mentions.{numbered}
 use Rattle.blif_checks.specs.Notes.{AreNotes, is_first_use, is_second}
 use Rattle.blif_checks.specs.Judged.{Judges}
 use Rattle.blif_checks.specs.Parts.{earlier_told, is_line_before, part_of}
 use Rattle.blif_checks.specs.Shown.{line_of}
-use Rattle.blif_checks.specs.Signals.{named_in}
+use Rattle.blif_checks.specs.Signals.{named_beside}
+use Rattle.blif_checks.proofs.GoodLaws.{quiet_beside}
 use Rattle.blif_checks.specs.declared.faults.ModelFault.{ModelFault}
 use Rattle.blif_checks.specs.declared.faults.ModelFault.TheVariants.{UnknownModel, Formals, Recursion, Depth, DrivenTwice, Undriven, NoMemory}
 use Rattle.blif_checks.specs.declared.mentions.Mention.{Mention}
@@ -126,58 +123,12 @@ told_never notes names mentions line o f least none found (inr e) = inr (line, r
 
 -- ---- all that a model's notes show
 
-all_named : (signals : List OnLine) (i : ℕ) (o : OnLine) → At signals i o → has_name (map (λ (o : OnLine). o.name) signals) o.name ≡ true
-all_named [] i o at = cc
-all_named (x ∷ signals) zero o at =
-    let same : x ≡ o = cc in
-    ap (λ b. b || has_name (map (λ (o : OnLine). o.name) signals) o.name) ((bytes_eq-Decides o.name x.name).1 (sym (ap (λ (p : OnLine). p.name) same)))
-all_named (x ∷ signals) (suc i) o at = by_test (bytes_eq o.name x.name) (all_named signals i o at) where
-  by_test : (b : Bool) → has_name (map (λ (o : OnLine). o.name) signals) o.name ≡ true → (b || has_name (map (λ (o : OnLine). o.name) signals) o.name) ≡ true
-  by_test true e = refl
-  by_test false e = e
-
-names_end : (xs ys : List OnLine) → map (λ (o : OnLine). o.name) (xs ++ ys) ≡ map (λ (o : OnLine). o.name) xs ++ map (λ (o : OnLine). o.name) ys
-names_end [] ys = refl
-names_end (x ∷ xs) ys = ap (λ ns. x.name ∷ ns) (names_end xs ys)
-
-listed_names : (names : List (List ℕ)) (lines : List ℕ) → length lines ≡ length names → map (λ (o : OnLine). o.name) (on_lines names lines) ≡ names
-listed_names [] lines e = refl
-listed_names (x ∷ names) [] e = absurd (omega (arith, e))
-listed_names (x ∷ names) (l ∷ lines) e = ap (λ ns. x ∷ ns) (listed_names names lines (omega (arith, e)))
-
-line_names : (line : ℕ) (names : List (List ℕ)) → map (λ (o : OnLine). o.name) (map (on_line line) names) ≡ names
-line_names line [] = refl
-line_names line (x ∷ names) = ap (λ ns. x ∷ ns) (line_names line names)
-
-card_names : {X : Type 0} (line : X → ℕ) (signals : X → List (List ℕ)) (xs : List X) → map (λ (o : OnLine). o.name) (flat_map (λ x. map (on_line (line x)) (signals x)) xs) ≡ flat_map signals xs
-card_names line signals [] = refl
-card_names line signals (x ∷ xs) =
-    names_end (map (on_line (line x)) (signals x)) (flat_map (λ x. map (on_line (line x)) (signals x)) xs) ∙ ap₂ ◌++◌ (line_names (line x) (signals x)) (card_names line signals xs)
-
--- the mentions are those of the names
-mentioned_names : (m : BlifModel) → IsModel m → map (λ (o : OnLine). o.name) (mentions_in m) ≡ named_in m
-mentioned_names m is =
-    names_end (on_lines m.inputs m.input_lines ++ on_lines m.clocks m.clock_lines ++ on_lines m.outputs m.output_lines ++ flat_map cover_mentions m.covers ++ flat_map latch_mentions m.latches) (flat_map sub_mentions m.subs)
-    ∙ ap₂ ◌++◌
-    (names_end (on_lines m.inputs m.input_lines ++ on_lines m.clocks m.clock_lines ++ on_lines m.outputs m.output_lines ++ flat_map cover_mentions m.covers) (flat_map latch_mentions m.latches)
-    ∙ ap₂ ◌++◌
-    (names_end (on_lines m.inputs m.input_lines ++ on_lines m.clocks m.clock_lines ++ on_lines m.outputs m.output_lines) (flat_map cover_mentions m.covers)
-    ∙ ap₂ ◌++◌
-    (names_end (on_lines m.inputs m.input_lines ++ on_lines m.clocks m.clock_lines) (on_lines m.outputs m.output_lines)
-    ∙ ap₂ ◌++◌
-    (names_end (on_lines m.inputs m.input_lines) (on_lines m.clocks m.clock_lines) ∙ ap₂ ◌++◌ (listed_names m.inputs m.input_lines is.input_lines) (listed_names m.clocks m.clock_lines is.clock_lines))
-    (listed_names m.outputs m.output_lines is.output_lines))
-    (card_names (λ (c : CoverLine). c.line) cover_signals m.covers))
-    (card_names (λ (l : LatchLine). l.line) latch_signals m.latches))
-    (card_names (λ (s : SubLine). s.line) sub_signals m.subs)
-
 -- the notes of a model by its names
-pub notes_are_of : (blif : Blif) (m : BlifModel) (names : List (List ℕ)) (notes : List Note) (drivers uses ds us : List Mention) (count : ℕ) → IsModel m → names ≡ with_names [] (named_in m)
+pub notes_are_of : (blif : Blif) (m : BlifModel) (names : List (List ℕ)) (notes : List Note) (drivers uses ds us : List Mention) (count : ℕ) → IsModel m → names ≡ with_names [] (named_beside m)
     → drivers ≡ map (numbered names) (drivers_in blif m) → uses ≡ map (numbered names) (uses_in blif m) → ds ≡ drivers → us ≡ uses → count ≡ length names → length notes ≡ count → AreNotes notes ds us → AreNotesOf blif m notes names
 notes_are_of blif m names notes drivers uses ds us count is n d u de ue c l are = record {
-  known = λ i o at.
-      ap (λ (ns : List (List ℕ)). has_name ns o.name) (n ∙ names_once (named_in m)) ∙ once_has_same (named_in m) o.name
-      ∙ ap (λ (ns : List (List ℕ)). has_name ns o.name) (sym (mentioned_names m is)) ∙ all_named (mentions_in m) i o at;
+  others = λ name absent.
+      quiet_beside blif m name is (sym (once_has_same (named_beside m) name) ∙ ap (λ (ns : List (List ℕ)). has_name ns name) (sym (n ∙ names_once (named_beside m))) ∙ absent);
   count = l ∙ c;
   notes_are = subst (λ (xs : List Mention). AreNotes notes xs (map (numbered names) (uses_in blif m))) (de ∙ d) (subst (AreNotes notes ds) (ue ∙ u) are);
 }

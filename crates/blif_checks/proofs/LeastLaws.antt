@@ -128,7 +128,7 @@ note_at [] k lt = absurd (omega arith)
 note_at (n ∷ notes) zero lt = (n, refl)
 note_at (n ∷ notes) (suc k) lt = note_at notes k (omega arith)
 
-pub twice_is : (blif : Blif) (m : BlifModel) (notes : List Note) (names : List (List ℕ)) (o : OnLine) → has_name names o.name ≡ true → length notes ≡ length names
+twice_is : (blif : Blif) (m : BlifModel) (notes : List Note) (names : List (List ℕ)) (o : OnLine) → has_name names o.name ≡ true → length notes ≡ length names
     → AreNotes notes (map (numbered names) (drivers_in blif m)) (map (numbered names) (uses_in blif m)) → is_second notes (numbered names o) ≡ is_driven_twice_on blif m o.line o.name
 twice_is blif m notes names o among count are =
     let at = note_at notes (number_among names o.name) (omega (arith, (number_there names o.name among).0, count)) in
@@ -140,7 +140,7 @@ twice_is blif m notes names o among count are =
     ∙ sym (ap₂ (λ a b. a && b)
     (ap₂ (λ a b. nat_lt 1 a && nat_lt b 2) (count_is o.line (drivers_of_name blif m o.name)) (below_is o.line (drivers_of_name blif m o.name))) (any_is o.line (drivers_of_name blif m o.name)))
 
-pub undriven_is : (blif : Blif) (m : BlifModel) (notes : List Note) (names : List (List ℕ)) (o : OnLine) → has_name names o.name ≡ true → length notes ≡ length names
+undriven_is : (blif : Blif) (m : BlifModel) (notes : List Note) (names : List (List ℕ)) (o : OnLine) → has_name names o.name ≡ true → length notes ≡ length names
     → AreNotes notes (map (numbered names) (drivers_in blif m)) (map (numbered names) (uses_in blif m)) → is_first_use notes (numbered names o) ≡ is_undriven_on blif m o.line o.name
 undriven_is blif m notes names o among count are =
     let at = note_at notes (number_among names o.name) (omega (arith, (number_there names o.name among).0, count)) in
@@ -151,6 +151,42 @@ undriven_is blif m notes names o among count are =
     ∙ ap₂ (λ (ds us : List ℕ). (is_none (slice_get ds 0) && has_line us o.line) && (below o.line us == 0)) (lines_same names o.name (drivers_in blif m) among) (lines_same names o.name (uses_in blif m) among)
     ∙ sym (ap₂ (λ a b. a && (b == 0))
     (ap₂ (λ a b. a && b) (empty_is (drivers_of_name blif m o.name)) (any_is o.line (uses_of_name blif m o.name))) (below_is o.line (uses_of_name blif m o.name)))
+
+-- a name that is none of them has the number behind all
+number_none : (names : List (List ℕ)) (name : List ℕ) → has_name names name ≡ false → number_among names name ≡ length names
+number_none [] name e = refl
+number_none (n ∷ names) name e =
+    let both = or_parts (bytes_eq name n) (has_name names name) e in
+    ap (λ b. cond (not b) (1 + number_among names name) 0) both.0 ∙ ap (λ k. 1 + k) (number_none names name both.1) ∙ one_plus (length names)
+
+none_behind : (notes : List Note) → slice_get notes (length notes) ≡ None
+none_behind [] = refl
+none_behind (n ∷ notes) = none_behind notes
+
+-- and no note
+unnoted : (notes : List Note) (names : List (List ℕ)) (name : List ℕ) → has_name names name ≡ false → length notes ≡ length names → slice_get notes (number_among names name) ≡ None
+unnoted notes names name e count = ap (slice_get notes) (number_none names name e ∙ sym count) ∙ none_behind notes
+
+-- what has a note is one of them
+noted : (test : Note → Bool) (notes : List Note) (names : List (List ℕ)) (name : List ℕ) → length notes ≡ length names → option_is test (slice_get notes (number_among names name)) ≡ true
+    → has_name names name ≡ true
+noted test notes names name count marked = by_test (has_name names name) refl where
+  by_test : (b : Bool) → has_name names name ≡ b → b ≡ true
+  by_test true h = refl
+  by_test false h = let both : false ≡ true = sym (ap (option_is test) (unnoted notes names name h count)) ∙ marked in cc
+
+second_is : (blif : Blif) (m : BlifModel) (notes : List Note) (names : List (List ℕ)) (o : OnLine) → AreNotesOf blif m notes names → is_second notes (numbered names o) ≡ is_driven_twice_on blif m o.line o.name
+second_is blif m notes names o are = by_test (has_name names o.name) refl where
+  by_test : (b : Bool) → has_name names o.name ≡ b → is_second notes (numbered names o) ≡ is_driven_twice_on blif m o.line o.name
+  by_test true h = twice_is blif m notes names o h are.count are.notes_are
+  by_test false h = ap (option_is (λ (note : Note). is_line note.second o.line)) (unnoted notes names o.name h are.count) ∙ sym ((are.others o.name h).once o.line)
+
+first_use_is : (blif : Blif) (m : BlifModel) (notes : List Note) (names : List (List ℕ)) (o : OnLine) → AreNotesOf blif m notes names → is_first_use notes (numbered names o) ≡ is_undriven_on blif m o.line o.name
+first_use_is blif m notes names o are = by_test (has_name names o.name) refl where
+  by_test : (b : Bool) → has_name names o.name ≡ b → is_first_use notes (numbered names o) ≡ is_undriven_on blif m o.line o.name
+  by_test true h = undriven_is blif m notes names o h are.count are.notes_are
+  by_test false h =
+      ap (option_is (λ (note : Note). is_none note.first && is_line note.used o.line)) (unnoted notes names o.name h are.count) ∙ sym ((are.others o.name h).unused o.line)
 
 -- ---- the names on a card
 
@@ -210,7 +246,7 @@ names_is m line = sym
 -- a test of mentions says of each of these what the test of names says
 pub record AreAlike (test : ℕ → List ℕ → Bool) (mark : Mention → Bool) (names : List (List ℕ)) (list : List OnLine) : Type 0 where
   pub same : (i : ℕ) (o : OnLine) → At list i o → mark (numbered names o) ≡ test o.line o.name
-  pub named : (i : ℕ) (o : OnLine) → At list i o → get_or names (number_among names o.name) [] ≡ o.name
+  pub named : (i : ℕ) (o : OnLine) → At list i o → mark (numbered names o) ≡ true → get_or names (number_among names o.name) [] ≡ o.name
 
 behind_alike : (test : ℕ → List ℕ → Bool) (mark : Mention → Bool) (names : List (List ℕ)) (o : OnLine) (list : List OnLine) → AreAlike test mark names (o ∷ list) → AreAlike test mark names list
 behind_alike test mark names o list alike = record { same = λ i p e. alike.same (suc i) p e; named = λ i p e. alike.named (suc i) p e }
@@ -224,10 +260,10 @@ finds test mark names line (o ∷ list) alike =
       rest : Option Mention
       rest = find (passes_on mark line) (map (numbered names) list)
 
-      by_mark : (b : Bool) → find (test line) (named_on line list) ≡ option_map (λ (o : Mention). get_or names o.signal []) rest
+      by_mark : (b : Bool) → mark (numbered names o) ≡ b → find (test line) (named_on line list) ≡ option_map (λ (o : Mention). get_or names o.signal []) rest
           → cond b (Some o.name) (find (test line) (named_on line list)) ≡ option_map (λ (o : Mention). get_or names o.signal []) (cond b (Some (numbered names o)) rest)
-      by_mark true e = ap Some (sym (alike.named 0 o refl))
-      by_mark false e = e
+      by_mark true h e = ap Some (sym (alike.named 0 o refl h))
+      by_mark false h e = e
 
       by_line : (b : Bool) → (o.line == line) ≡ b → find (test line) (named_on line list) ≡ option_map (λ (o : Mention). get_or names o.signal []) rest
           → find (test line) (map (λ (o : OnLine). o.name) (cond (o.line == line) (o ∷ filter (λ (o : OnLine). o.line == line) list) (filter (λ (o : OnLine). o.line == line) list)))
@@ -235,7 +271,7 @@ finds test mark names line (o ∷ list) alike =
       by_line true h e =
           ap (λ b. find (test line) (map (λ (o : OnLine). o.name) (cond b (o ∷ filter (λ (o : OnLine). o.line == line) list) (filter (λ (o : OnLine). o.line == line) list)))) h
           ∙ ap (λ b. cond b (Some o.name) (find (test line) (named_on line list))) (ap (λ l. test l o.name) (sym (eqb-true o.line line h)) ∙ sym (alike.same 0 o refl))
-          ∙ by_mark (mark (numbered names o)) e
+          ∙ by_mark (mark (numbered names o)) refl e
           ∙ ap (λ b. option_map (λ (o : Mention). get_or names o.signal []) (cond (b && mark (numbered names o)) (Some (numbered names o)) rest)) (sym h)
       by_line false h e =
           ap (λ b. find (test line) (map (λ (o : OnLine). o.name) (cond b (o ∷ filter (λ (o : OnLine). o.line == line) list) (filter (λ (o : OnLine). o.line == line) list)))) h
@@ -297,14 +333,14 @@ any_at line (o ∷ list) e = elim (or_cases (o.line == line) (list_any (λ (o : 
 
 alike_twice : (blif : Blif) (m : BlifModel) (notes : List Note) (names : List (List ℕ)) → AreNotesOf blif m notes names → AreAlike (is_driven_twice_on blif m) (is_second notes) names (mentions_in m)
 alike_twice blif m notes names are = record {
-  same = λ i o e. twice_is blif m notes names o (are.known i o e) are.count are.notes_are;
-  named = λ i o e. (number_there names o.name (are.known i o e)).1;
+  same = λ i o e. second_is blif m notes names o are;
+  named = λ i o e marked. (number_there names o.name (noted (λ (note : Note). is_line note.second o.line) notes names o.name are.count marked)).1;
 }
 
 alike_never : (blif : Blif) (m : BlifModel) (notes : List Note) (names : List (List ℕ)) → AreNotesOf blif m notes names → AreAlike (is_undriven_on blif m) (is_first_use notes) names (mentions_in m)
 alike_never blif m notes names are = record {
-  same = λ i o e. undriven_is blif m notes names o (are.known i o e) are.count are.notes_are;
-  named = λ i o e. (number_there names o.name (are.known i o e)).1;
+  same = λ i o e. first_use_is blif m notes names o are;
+  named = λ i o e marked. (number_there names o.name (noted (λ (note : Note). is_none note.first && is_line note.used o.line) notes names o.name are.count marked)).1;
 }
 
 twice_found : (blif : Blif) (m : BlifModel) (notes : List Note) (names : List (List ℕ)) (line : ℕ) → AreNotesOf blif m notes names
@@ -361,17 +397,16 @@ line_there : (blif : Blif) (m : BlifModel) (notes : List Note) (names : List (Li
 line_there blif m notes names line i o are at bad here =
     let x = mentioned names (mentions_in m) i o at in
     let l : x.0.line ≡ line = ap (λ (p : Mention). p.line) x.2 ∙ here in
-    let known = are.known i x.0 x.1 in
     any_at line (drivers_in blif m ++ uses_in blif m) (elim (or_cases (is_second notes o) (is_first_use notes o) bad) [
       | inl second ↦
-          let twice : is_driven_twice_on blif m x.0.line x.0.name ≡ true = sym (twice_is blif m notes names x.0 known are.count are.notes_are) ∙ ap (is_second notes) x.2 ∙ second in
+          let twice : is_driven_twice_on blif m x.0.line x.0.name ≡ true = sym (second_is blif m notes names x.0 are) ∙ ap (is_second notes) x.2 ∙ second in
           let any = (and_parts (nat_lt 1 (count_lines (λ k. not (nat_lt x.0.line k)) (drivers_of_name blif m x.0.name)) && nat_lt (count_lines (λ k. nat_lt k x.0.line) (drivers_of_name blif m x.0.name)) 2)
           (list_any (λ (p : OnLine). p.line == x.0.line) (drivers_of_name blif m x.0.name)) twice).1 in
           let among : list_any (λ (p : OnLine). p.line == line) (drivers_in blif m) ≡ true =
           ap (λ k. list_any (λ (p : OnLine). p.line == k) (drivers_in blif m)) (sym l) ∙ filtered_any (λ (p : OnLine). bytes_eq p.name x.0.name) x.0.line (drivers_in blif m) any in
           list_any-append (λ (p : OnLine). p.line == line) (drivers_in blif m) (uses_in blif m) ∙ ap (λ b. b || list_any (λ (p : OnLine). p.line == line) (uses_in blif m)) among
       | inr first ↦
-          let never : is_undriven_on blif m x.0.line x.0.name ≡ true = sym (undriven_is blif m notes names x.0 known are.count are.notes_are) ∙ ap (is_first_use notes) x.2 ∙ first in
+          let never : is_undriven_on blif m x.0.line x.0.name ≡ true = sym (first_use_is blif m notes names x.0 are) ∙ ap (is_first_use notes) x.2 ∙ first in
           let both = (and_parts (is_none (slice_get (drivers_of_name blif m x.0.name) 0) && list_any (λ (p : OnLine). p.line == x.0.line) (uses_of_name blif m x.0.name))
           (count_lines (λ k. nat_lt k x.0.line) (uses_of_name blif m x.0.name) == 0) never).0 in
           let any = (and_parts (is_none (slice_get (drivers_of_name blif m x.0.name) 0)) (list_any (λ (p : OnLine). p.line == x.0.line) (uses_of_name blif m x.0.name)) both).1 in

@@ -8,7 +8,7 @@ use Rattle.std.proofs.lemmas.Bool.{ltb-false}
 use Rattle.std.proofs.lemmas.List.Sums.{prefix_len-le-length}
 use Rattle.vrt_model.specs.FlatBlif.{cover_signals, latch_signals, sub_signals}
 use Rattle.vrt_model.specs.declared.blif.BlifModel.{BlifModel}
-use Rattle.blif_checks.specs.Signals.{named_in}
+use Rattle.blif_checks.specs.Signals.{named_beside, named_in}
 use Rattle.std.proofs.lemmas.List.{map-append}
 use Rattle.vrt_model.proofs.Lists.{take_one}
 use Rattle.names.specs.Names.{with_names}
@@ -90,11 +90,19 @@ position_none p xs e = by_test (nat_lt (position_or_len p xs) (length xs)) refl 
       let most : position_or_len p xs ≤ length xs = prefix_len-le-length (λ x. not (p x)) xs in
       omega arith
 
--- the signals of a model, list by list
-pub signals_are : (m : BlifModel) (none a b c d e f : List (List ℕ)) → none ≡ [] → a ≡ with_names none m.inputs → b ≡ with_names a m.clocks → c ≡ with_names b m.outputs → d ≡ with_names c (flat_map cover_signals m.covers)
-    → e ≡ with_names d (flat_map latch_signals m.latches) → f ≡ with_names e (flat_map sub_signals m.subs) → f ≡ with_names [] (named_in m)
-signals_are m none a b c d e f n ia ib ic id ie if' =
-    names_joined [] e f (m.inputs ++ m.clocks ++ m.outputs ++ flat_map cover_signals m.covers ++ flat_map latch_signals m.latches) (flat_map sub_signals m.subs)
-    (names_joined [] d e (m.inputs ++ m.clocks ++ m.outputs ++ flat_map cover_signals m.covers) (flat_map latch_signals m.latches)
-    (names_joined [] c d (m.inputs ++ m.clocks ++ m.outputs) (flat_map cover_signals m.covers)
-    (names_joined [] b c (m.inputs ++ m.clocks) m.outputs (names_joined [] a b m.inputs m.clocks (ia ∙ ap (λ ns. with_names ns m.inputs) n) ib) ic) id) ie) if'
+-- the signals beside inputs and clocks, list by list
+pub beside_are : (m : BlifModel) (old c d e f : List (List ℕ)) → c ≡ with_names old m.outputs → d ≡ with_names c (flat_map cover_signals m.covers) → e ≡ with_names d (flat_map latch_signals m.latches)
+    → f ≡ with_names e (flat_map sub_signals m.subs) → f ≡ with_names old (named_beside m)
+beside_are m old c d e f ic id ie if' =
+    names_joined old e f (m.outputs ++ flat_map cover_signals m.covers ++ flat_map latch_signals m.latches) (flat_map sub_signals m.subs)
+    (names_joined old d e (m.outputs ++ flat_map cover_signals m.covers) (flat_map latch_signals m.latches) (names_joined old c d m.outputs (flat_map cover_signals m.covers) ic id) ie) if'
+
+-- all of them
+pub signals_are : (m : BlifModel) (none a b c : List (List ℕ)) → none ≡ [] → a ≡ with_names none m.inputs → b ≡ with_names a m.clocks → c ≡ with_names b (named_beside m) → c ≡ with_names [] (named_in m)
+signals_are m none a b c n ia ib ic =
+    names_joined [] b c (m.inputs ++ m.clocks) (named_beside m) (names_joined [] a b m.inputs m.clocks (ia ∙ ap (λ ns. with_names ns m.inputs) n) ib) ic
+    ∙ ap (with_names [])
+    (sym (append_assoc (m.inputs ++ m.clocks) (m.outputs ++ flat_map cover_signals m.covers ++ flat_map latch_signals m.latches) (flat_map sub_signals m.subs))
+    ∙ ap (λ ns. ns ++ flat_map sub_signals m.subs)
+    (sym (append_assoc (m.inputs ++ m.clocks) (m.outputs ++ flat_map cover_signals m.covers) (flat_map latch_signals m.latches))
+    ∙ ap (λ ns. ns ++ flat_map latch_signals m.latches) (sym (append_assoc (m.inputs ++ m.clocks) m.outputs (flat_map cover_signals m.covers)))))

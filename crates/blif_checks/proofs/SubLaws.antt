@@ -8,7 +8,7 @@ use Rattle.std.proofs.lemmas.Option.{get_or_from_slice_get}
 use Rattle.vrt_model.proofs.Lists.{drop_one}
 use Rattle.vrt_model.proofs.Tests.{map_or, or_swap}
 use Rattle.text_lines.specs.Faults.{first_of, when}
-use Rattle.vrt_model.specs.Lists.{distinct, has_name}
+use Rattle.vrt_model.specs.Lists.{has_name}
 use Rattle.names.specs.Names.{first_missing, with_name}
 use Rattle.vrt_model.specs.Models.{bad_formal, bad_formal_after, bad_sub, interface_of, is_bad_sub, is_model}
 use Rattle.vrt_model.specs.declared.blif.BlifModel.{BlifModel}
@@ -20,7 +20,7 @@ use Rattle.vrt_model.specs.declared.blif.Tie.{Tie}
 use Rattle.blif_checks.specs.declared.faults.ModelFault.{ModelFault}
 use Rattle.blif_checks.specs.declared.faults.ModelFault.TheVariants.{Formals, UnknownModel}
 use Rattle.blif_checks.specs.Subs.{bad_formal_in, is_bad_formal, sub_fault, subs_fault}
-use Rattle.names.proofs.NameLaws.{HaveSame, once_has_same, with_front}
+use Rattle.names.proofs.NameLaws.{HaveSame, with_front}
 
 -- what ties refuse depends on the names alone
 pub bad_same : (signals others seen known tied : List (List ℕ)) → HaveSame signals others → HaveSame seen known → bad_formal_after signals seen tied ≡ bad_formal_after others known tied
@@ -104,12 +104,9 @@ formals_turn interface seen new ties i tie lt here so_far good e = (
       ∙ ap (λ ts. has_name (map (λ (t : Tie). t.formal) ts) name) (ap (λ t. take i ties ++ t ∷ []) (sym (get_or_from_slice_get ties i tie tie here)) ∙ sym (take_more ties i tie lt)),
 )
 
-bad_in : (line : ℕ) (m : BlifModel) (interface tied : List (List ℕ)) → interface ≡ distinct (interface_of m)
-    → option_map (Formals line) (bad_formal_in m tied) ≡ option_or (option_map (Formals line) (bad_formal_after interface [] tied)) (option_map (Formals line) (first_missing tied (m.inputs ++ m.clocks)))
-bad_in line m interface tied is =
-    map_or (Formals line) (bad_formal_after (interface_of m) [] tied) (first_missing tied (m.inputs ++ m.clocks))
-    ∙ ap (λ o. option_or (option_map (Formals line) o) (option_map (Formals line) (first_missing tied (m.inputs ++ m.clocks))))
-    (bad_same (interface_of m) interface [] [] tied (λ n. sym (once_has_same (interface_of m) n) ∙ ap (λ ns. has_name ns n) (sym is)) (λ n. refl))
+bad_in : (line : ℕ) (m : BlifModel) (tied : List (List ℕ))
+    → option_map (Formals line) (bad_formal_in m tied) ≡ option_or (option_map (Formals line) (bad_formal_after (interface_of m) [] tied)) (option_map (Formals line) (first_missing tied (m.inputs ++ m.clocks)))
+bad_in line m tied = map_or (Formals line) (bad_formal_after (interface_of m) [] tied) (first_missing tied (m.inputs ++ m.clocks))
 
 left_out : (line : ℕ) (m : BlifModel) (seen tied : List (List ℕ)) → HaveSame seen tied
     → option_map (Formals line) (first_missing tied (m.inputs ++ m.clocks)) ≡ option_or (option_map (Formals line) (first_missing seen m.inputs)) (option_map (Formals line) (first_missing seen m.clocks))
@@ -118,16 +115,16 @@ left_out line m seen tied same =
     ∙ map_or (Formals line) (first_missing seen m.inputs) (first_missing seen m.clocks)
 
 -- the first formal that does not fit
-pub ties_first : (line : ℕ) (m : BlifModel) (interface tied : List (List ℕ)) (f : ModelFault) → interface ≡ distinct (interface_of m)
-    → option_map (Formals line) (bad_formal_after interface [] tied) ≡ Some f → option_map (Formals line) (bad_formal_in m tied) ≡ Some f
-ties_first line m interface tied f is e = bad_in line m interface tied is ∙ ap (λ o. option_or o (option_map (Formals line) (first_missing tied (m.inputs ++ m.clocks)))) e
+pub ties_first : (line : ℕ) (m : BlifModel) (tied : List (List ℕ)) (f : ModelFault)
+    → option_map (Formals line) (bad_formal_after (interface_of m) [] tied) ≡ Some f → option_map (Formals line) (bad_formal_in m tied) ≡ Some f
+ties_first line m tied f e = bad_in line m tied ∙ ap (λ o. option_or o (option_map (Formals line) (first_missing tied (m.inputs ++ m.clocks)))) e
 
 -- else the first input or clock that is left out, or none
-pub ties_rest : (line : ℕ) (m : BlifModel) (interface seen tied : List (List ℕ)) (inputs all : Option ModelFault) → interface ≡ distinct (interface_of m) → HaveSame seen tied
-    → option_map (Formals line) (bad_formal_after interface [] tied) ≡ None → option_map (Formals line) (first_missing seen m.inputs) ≡ inputs
+pub ties_rest : (line : ℕ) (m : BlifModel) (seen tied : List (List ℕ)) (inputs all : Option ModelFault) → HaveSame seen tied
+    → option_map (Formals line) (bad_formal_after (interface_of m) [] tied) ≡ None → option_map (Formals line) (first_missing seen m.inputs) ≡ inputs
     → option_or inputs (option_map (Formals line) (first_missing seen m.clocks)) ≡ all → option_map (Formals line) (bad_formal_in m tied) ≡ all
-ties_rest line m interface seen tied inputs all is same none e f =
-    bad_in line m interface tied is ∙ ap (λ o. option_or o (option_map (Formals line) (first_missing tied (m.inputs ++ m.clocks)))) none ∙ left_out line m seen tied same
+ties_rest line m seen tied inputs all same none e f =
+    bad_in line m tied ∙ ap (λ o. option_or o (option_map (Formals line) (first_missing tied (m.inputs ++ m.clocks)))) none ∙ left_out line m seen tied same
     ∙ ap (λ o. option_or o (option_map (Formals line) (first_missing seen m.clocks))) e ∙ f
 
 -- one tie more, by the call that takes its formal
@@ -142,19 +139,19 @@ formals_step line interface seen new ties i tie name lt here is so_far none e =
     (ap (is_bad_formal interface seen) (sym is) ∙ when_no (is_bad_formal interface seen name) (Formals line name) none) (e ∙ ap (with_name seen) is)
 
 -- the faults of a sub-model, by the calls that judge its ties
-pub sub_first : (sub : SubLine) (m : BlifModel) (interface : List (List ℕ)) (ties : List Tie) (f : ModelFault) → interface ≡ distinct (interface_of m) → ties ≡ sub.ties
-    → option_map (Formals sub.line) (bad_formal_after interface [] (map (λ (t : Tie). t.formal) ties)) ≡ Some f → option_map (Formals sub.line) (bad_formal_in m (formals sub)) ≡ Some f
-sub_first sub m interface ties f is same e =
-    ties_first sub.line m interface (formals sub) f is (ap (λ ts. option_map (Formals sub.line) (bad_formal_after interface [] (map (λ (t : Tie). t.formal) ts))) (sym same) ∙ e)
+pub sub_first : (sub : SubLine) (m : BlifModel) (ties : List Tie) (f : ModelFault) → ties ≡ sub.ties
+    → option_map (Formals sub.line) (bad_formal_after (interface_of m) [] (map (λ (t : Tie). t.formal) ties)) ≡ Some f → option_map (Formals sub.line) (bad_formal_in m (formals sub)) ≡ Some f
+sub_first sub m ties f same e =
+    ties_first sub.line m (formals sub) f (ap (λ ts. option_map (Formals sub.line) (bad_formal_after (interface_of m) [] (map (λ (t : Tie). t.formal) ts))) (sym same) ∙ e)
 
-pub sub_rest : (sub : SubLine) (m : BlifModel) (interface seen : List (List ℕ)) (ties : List Tie) (ins clks : List (List ℕ)) (inputs all : Option ModelFault) → interface ≡ distinct (interface_of m)
+pub sub_rest : (sub : SubLine) (m : BlifModel) (seen : List (List ℕ)) (ties : List Tie) (ins clks : List (List ℕ)) (inputs all : Option ModelFault)
     → ties ≡ sub.ties → ins ≡ m.inputs → clks ≡ m.clocks → HaveSame seen (map (λ (t : Tie). t.formal) ties)
-    → option_map (Formals sub.line) (bad_formal_after interface [] (map (λ (t : Tie). t.formal) ties)) ≡ None
+    → option_map (Formals sub.line) (bad_formal_after (interface_of m) [] (map (λ (t : Tie). t.formal) ties)) ≡ None
     → option_map (Formals sub.line) (first_missing seen ins) ≡ inputs → option_or inputs (option_map (Formals sub.line) (first_missing seen clks)) ≡ all
     → option_map (Formals sub.line) (bad_formal_in m (formals sub)) ≡ all
-sub_rest sub m interface seen ties ins clks inputs all is same i c tied none e f =
-    ties_rest sub.line m interface seen (formals sub) inputs all is (λ n. tied n ∙ ap (λ ts. has_name (map (λ (t : Tie). t.formal) ts) n) same)
-    (ap (λ ts. option_map (Formals sub.line) (bad_formal_after interface [] (map (λ (t : Tie). t.formal) ts))) (sym same) ∙ none)
+sub_rest sub m seen ties ins clks inputs all same i c tied none e f =
+    ties_rest sub.line m seen (formals sub) inputs all (λ n. tied n ∙ ap (λ ts. has_name (map (λ (t : Tie). t.formal) ts) n) same)
+    (ap (λ ts. option_map (Formals sub.line) (bad_formal_after (interface_of m) [] (map (λ (t : Tie). t.formal) ts))) (sym same) ∙ none)
     (ap (λ ns. option_map (Formals sub.line) (first_missing seen ns)) (sym i) ∙ e) (ap (λ ns. option_or inputs (option_map (Formals sub.line) (first_missing seen ns))) (sym c) ∙ f)
 
 -- the sub-models of the models, by the call that judges those of one

@@ -1,10 +1,10 @@
 -- The first signal of a model with two drivers or none.
 use Rattle.std.specs.Prelude.{◌≡◌, ◌⊎◌, ◌≤◌, ℕ, Bool, true, false, ◌==◌, ◌&&◌, ◌||◌, List, [], get_or, length, map, find, nat_le, cond, Option, Some, None, Result, Ok, Err}
 use Rattle.vrt_model.specs.Lists.{At, has_name}
-use Rattle.vrt_model.specs.Models.{DriverFault, Never, OnLine, Twice, drivers_in, uses_in}
+use Rattle.vrt_model.specs.Models.{DriverFault, Never, Twice, drivers_in, is_driven_twice_on, is_undriven_on, uses_in}
 use Rattle.vrt_model.specs.declared.blif.Blif.{Blif}
 use Rattle.vrt_model.specs.declared.blif.BlifModel.{BlifModel}
-use Rattle.blif_checks.specs.Mentions.{mentions_in, numbered}
+use Rattle.blif_checks.specs.Mentions.{numbered}
 use Rattle.blif_checks.specs.Notes.{AreNotes, is_first_use, is_second}
 use Rattle.blif_checks.specs.declared.faults.ModelFault.{ModelFault}
 use Rattle.blif_checks.specs.declared.faults.ModelFault.TheVariants.{DrivenTwice, Undriven, NoMemory}
@@ -43,9 +43,14 @@ pub record IsOnLine (notes : List Note) (names : List (List ℕ)) (mentions : Li
       ⊎ ((o : Mention) × (find (passes_on (is_second notes) line) mentions ≡ None) × (find (passes_on (is_first_use notes) line) mentions ≡ Some o)
       × (f ≡ Undriven line (get_or names o.signal [])))
 
--- what notes by names show of a model
+-- a name has no fault on any line
+pub record IsQuiet (blif : Blif) (m : BlifModel) (name : List ℕ) : Type 0 where
+  pub once : (line : ℕ) → is_driven_twice_on blif m line name ≡ false
+  pub unused : (line : ℕ) → is_undriven_on blif m line name ≡ false
+
+-- what notes by names show of a model; a name without a note has no fault
 pub record AreNotesOf (blif : Blif) (m : BlifModel) (notes : List Note) (names : List (List ℕ)) : Type 0 where
-  pub known : (i : ℕ) (o : OnLine) → At (mentions_in m) i o → has_name names o.name ≡ true
+  pub others : (name : List ℕ) → has_name names name ≡ false → IsQuiet blif m name
   pub count : length notes ≡ length names
   pub notes_are : AreNotes notes (map (numbered names) (drivers_in blif m)) (map (numbered names) (uses_in blif m))
 

@@ -2,8 +2,6 @@
 use Rattle.std.specs.Prelude.{ℕ, Bool, false, true, cond, nat_lt, List, [], Option, Some, None, Result, Ok, Err}
 use Rattle.vrt_model.specs.declared.blif.BlifModel.{BlifModel}
 use Rattle.vrt_model.specs.declared.blif.CoverLine.{CoverLine}
-use Rattle.vrt_model.specs.declared.blif.LatchLine.{LatchLine}
-use Rattle.vrt_model.specs.declared.blif.SubLine.{SubLine}
 use Rattle.blif_checks.specs.Shown.{line_of}
 use Rattle.blif_checks.specs.declared.faults.ModelFault.{ModelFault}
 use Rattle.blif_checks.specs.declared.part.Part.{Part}

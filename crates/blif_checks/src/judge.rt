@@ -19,7 +19,7 @@ use crate::mentions::{Mention, mentions_of};
 use crate::notes::{Note, notes_of};
 use crate::part::Part;
 use crate::roles::all_clocks;
-use crate::signals::named_of;
+use crate::signals::beside_of;
 use crate::tables::Tables;
 use crate::uses::uses_of;
 use names::Names;
@@ -249,7 +249,7 @@ fn noted_of(
     requires model { IsModel model.now }
     ensures { IfOk result (λ noted. AreNotesOf blif.now (part_of part model.now) noted.notes.items noted.names) }
 {
-    let names = named_of(alloc, part, model)?;
+    let names = beside_of(alloc, part, model)?;
     let drivers = drivers_of(alloc, &names, blif, tables, clocks, part, model)?;
     let uses = uses_of(alloc, &names, blif, tables, clocks, part, model)?;
     let notes = notes_of(alloc, names.len(), drivers.as_slice(), uses.as_slice())?;

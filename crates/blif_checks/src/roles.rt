@@ -3,15 +3,15 @@
 ghost use Rattle.std.specs.Prelude.{◌≡◌, ◌&&◌, ◌||◌, [], get_or, length, map, not, take, IfOk};
 ghost use Rattle.vrt_model.specs.FlatBlif.{model_at};
 ghost use Rattle.vrt_model.specs.Lists.{distinct, has_name};
-ghost use Rattle.vrt_model.specs.Models.{is_driving, is_reading};
+ghost use Rattle.vrt_model.specs.Models.{interface_of, is_driving, is_reading};
 ghost use Rattle.blif_checks.specs.Drivers.{AreClocks, in_role};
 ghost use Rattle.blif_checks.specs.Tables.{AreTables};
 
 use crate::inner::number_of;
-use crate::tables::Tables;
+use crate::tables::{Tables, has_name, in_interface};
 use names::Names;
 use std::alloc::Global;
-use vrt_model::{Blif, BlifModel, NoMemory, Seq, SubLine, Tie};
+use vrt_model::{Blif, BlifModel, NoMemory, Seq, SubLine, Text, Tie};
 
 /// What a sub-model does at a tie.
 #[derive(Clone, Copy)]
@@ -55,27 +55,46 @@ fn is_among_first(names: &Names, count: usize, name: &[u8]) -> bool
     }
 }
 
-/// How many inputs a model has, by its number.
-fn count_of_inputs(blif: &Blif, number: usize) -> usize
-    ensures { result ≡ length (model_at blif.now number).inputs }
+/// The inputs of a model, by its number.
+fn inputs_of(blif: &Blif, number: usize) -> &[Text]
+    ensures { result.now ≡ (model_at blif.now number).inputs }
 {
     match blif.models.get(number) {
-        Some(model) => model.inputs.len(),
-        None => 0,
+        Some(model) => model.inputs.as_slice(),
+        None => &[],
     }
 }
 
-/// Whether a model, by its number, has an input. Its inputs come first in its interface.
+/// Whether a model, by its number, has an input. Its inputs come first in the set of its interface.
 #[tactic(auto, using(crate::proofs::DriverLaws::input_is, crate::proofs::DriverLaws::input_none))]
 fn is_input(blif: &Blif, tables: &Tables, clocks: &[Names], number: usize, name: &[u8]) -> bool
     requires tables { AreTables blif.now tables.now }
     requires clocks { AreClocks blif.now clocks.now }
     ensures { result ≡ has_name (model_at blif.now number).inputs name.now }
 {
-    match tables.interfaces.get(number) {
-        Some(interface) => is_among_first(interface, count_of_inputs(blif, number), name),
-        None => false,
+    let Some(interface) = tables.interfaces.get(number) else {
+        return false;
+    };
+    let inputs = inputs_of(blif, number);
+    if interface.is_empty() {
+        return has_name(inputs, name);
     }
+    is_among_first(interface, inputs.len(), name)
+}
+
+/// Whether a name is in the interface of a model, by its number.
+#[tactic(auto, using(crate::proofs::NameLaws::interface_there, crate::proofs::NameLaws::no_model))]
+fn knows(blif: &Blif, tables: &Tables, number: usize, name: &[u8]) -> bool
+    requires { AreTables blif.now tables.now }
+    ensures { result ≡ has_name (interface_of (model_at blif.now number)) name.now }
+{
+    let Some(model) = blif.models.get(number) else {
+        return false;
+    };
+    let Some(interface) = tables.interfaces.get(number) else {
+        return false;
+    };
+    in_interface(model, interface, name)
 }
 
 /// Whether a list of lists of names, at a number, has a name.
@@ -131,7 +150,7 @@ fn is_driving(blif: &Blif, tables: &Tables, clocks: &[Names], sub: &SubLine, tie
 {
     let number = number_of(&tables.names, sub.model.as_bytes());
     let formal = tie.formal.as_bytes();
-    let known = has_at(tables.interfaces.as_slice(), number, formal);
+    let known = knows(blif, tables, number, formal);
     let read = reads(blif, tables, clocks, number, formal);
     is_first_alone(known, read)
 }

@@ -6,7 +6,7 @@ ghost use Rattle.names.specs.Names.{with_names};
 ghost use Rattle.vrt_model.specs.FlatBlif.{cover_signals, latch_signals, sub_signals};
 ghost use Rattle.vrt_model.specs.declared.blif.Tie.{Tie as TieValue};
 ghost use Rattle.blif_checks.specs.Parts.{part_of};
-ghost use Rattle.blif_checks.specs.Signals.{named_in};
+ghost use Rattle.blif_checks.specs.Signals.{named_beside, named_in};
 
 use crate::part::{Part, covers_of, latches_of, outputs_of, subs_of};
 use names::Names;
@@ -74,18 +74,25 @@ fn add_subs(names: &mut Names, subs: &[SubLine]) -> Result<(), NoMemory>
     Ok(())
 }
 
-/// The signals of a model or its network in the order in which they are first named: inputs, clocks, outputs, then those
-/// of covers, latches and ties.
-pub(crate) fn named_of(alloc: Global, part: Part, model: &BlifModel) -> Result<Names, NoMemory>
-    ensures { IfOk result (λ names. names ≡ with_names [] (named_in (part_of part model.now))) }
+/// Adds the signals of a model or its network that are named elsewhere than as inputs and clocks: outputs, then those of
+/// covers, latches and ties.
+fn add_beside(names: &mut Names, part: Part, model: &BlifModel) -> Result<(), NoMemory>
+    ensures { OnOk result (names.new ≡ with_names names.old (named_beside (part_of part model.now))) }
+{
+    names.add_all(outputs_of(part, model))?;
+    add_covers(names, covers_of(part, model))?;
+    add_latches(names, latches_of(part, model))?;
+    add_subs(names, subs_of(part, model))?;
+    Ok(())
+}
+
+/// The signals of a model or its network that are named elsewhere than as inputs and clocks. One that is named as input or
+/// clock alone has no fault.
+pub(crate) fn beside_of(alloc: Global, part: Part, model: &BlifModel) -> Result<Names, NoMemory>
+    ensures { IfOk result (λ names. names ≡ with_names [] (named_beside (part_of part model.now))) }
 {
     let mut names = Names::new(alloc);
-    names.add_all(model.inputs.as_slice())?;
-    names.add_all(model.clocks.as_slice())?;
-    names.add_all(outputs_of(part, model))?;
-    add_covers(&mut names, covers_of(part, model))?;
-    add_latches(&mut names, latches_of(part, model))?;
-    add_subs(&mut names, subs_of(part, model))?;
+    add_beside(&mut names, part, model)?;
     Ok(names)
 }
 
@@ -94,7 +101,11 @@ pub(crate) fn named_of(alloc: Global, part: Part, model: &BlifModel) -> Result<N
 pub fn signals_of(alloc: Global, model: &BlifModel) -> Result<Names, NoMemory>
     ensures { IfOk result (λ names. names ≡ with_names [] (named_in model.now)) }
 {
-    named_of(alloc, Part::Own, model)
+    let mut names = Names::new(alloc);
+    names.add_all(model.inputs.as_slice())?;
+    names.add_all(model.clocks.as_slice())?;
+    add_beside(&mut names, Part::Own, model)?;
+    Ok(names)
 }
 
 /// The names on the cards of covers, in the order in which they are first named.

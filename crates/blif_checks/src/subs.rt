@@ -1,17 +1,17 @@
 //! The first sub-model that does not fit.
 
 ghost use Rattle.std.specs.Prelude.{◌≡◌, ◌⊎◌, [], None, ℕ, List, Bool, true, false, map, option_map, IfSome, IfNone, OnOk};
-ghost use Rattle.vrt_model.specs.Lists.{distinct, has_name};
+ghost use Rattle.vrt_model.specs.Lists.{has_name};
 ghost use Rattle.names.specs.Names.{first_missing, with_name};
 ghost use Rattle.text_lines.specs.Faults.{first_of, when};
 ghost use Rattle.vrt_model.specs.FlatBlif.{formals, model_at, model_numbered};
 ghost use Rattle.vrt_model.specs.Models.{bad_formal_after, bad_sub, interface_of, is_model};
 ghost use Rattle.blif_checks.specs.Judged.{Judges};
 ghost use Rattle.blif_checks.specs.Subs.{bad_formal_in, is_bad_formal, sub_fault, subs_fault};
-ghost use Rattle.blif_checks.specs.Tables.{AreTables};
+ghost use Rattle.blif_checks.specs.Tables.{AreTables, IsInterfaceSet};
 
 use crate::ModelFault;
-use crate::tables::Tables;
+use crate::tables::{Tables, in_interface};
 use names::Names;
 use std::alloc::Global;
 use vrt_model::{Blif, BlifModel, SubLine, Text, Tie};
@@ -43,14 +43,16 @@ fn unknown_model(alloc: Global, sub: &SubLine) -> ModelFault
 fn take_formal(
     alloc: Global,
     line: u32,
+    model: &BlifModel,
     interface: &Names,
     seen: &mut Names,
     formal: &[u8],
 ) -> Result<(), ModelFault>
-    ensures fault { Judges result (when (is_bad_formal interface.now seen.old formal.now) (ModelFault.Formals line formal.now)) }
+    requires { IsInterfaceSet model.now interface.now }
+    ensures fault { Judges result (when (is_bad_formal (interface_of model.now) seen.old formal.now) (ModelFault.Formals line formal.now)) }
     ensures seen { OnOk result (seen.new ≡ with_name seen.old formal.now) }
 {
-    if !interface.contains(formal) || seen.contains(formal) {
+    if !in_interface(model, interface, formal) || seen.contains(formal) {
         return Err(formals_fault(alloc, line, formal));
     }
     match seen.number(formal) {
@@ -63,16 +65,18 @@ fn take_formal(
 fn take_formals(
     alloc: Global,
     line: u32,
+    model: &BlifModel,
     interface: &Names,
     seen: &mut Names,
     ties: &[Tie],
 ) -> Result<(), ModelFault>
-    requires { seen.old ≡ [] }
-    ensures fault { Judges result (option_map (ModelFault.Formals line) (bad_formal_after interface.now [] (map (λ t. t.formal) ties.now))) }
+    requires interface { IsInterfaceSet model.now interface.now }
+    requires seen { seen.old ≡ [] }
+    ensures fault { Judges result (option_map (ModelFault.Formals line) (bad_formal_after (interface_of model.now) [] (map (λ t. t.formal) ties.now))) }
     ensures seen { OnOk result ((name : List ℕ) → has_name seen.new name ≡ has_name (map (λ t. t.formal) ties.now) name) }
 {
     for tie in ties {
-        take_formal(alloc, line, interface, seen, tie.formal.as_bytes())?;
+        take_formal(alloc, line, model, interface, seen, tie.formal.as_bytes())?;
     }
     Ok(())
 }
@@ -96,11 +100,18 @@ fn judge_ties(
     interface: &Names,
     sub: &SubLine,
 ) -> Result<(), ModelFault>
-    requires { interface.now ≡ distinct (interface_of model.now) }
+    requires { IsInterfaceSet model.now interface.now }
     ensures { Judges result (option_map (ModelFault.Formals sub.now.line) (bad_formal_in model.now (formals sub.now))) }
 {
     let mut tied = Names::new(alloc);
-    take_formals(alloc, sub.line, interface, &mut tied, sub.ties.as_slice())?;
+    take_formals(
+        alloc,
+        sub.line,
+        model,
+        interface,
+        &mut tied,
+        sub.ties.as_slice(),
+    )?;
     take_tied(alloc, sub.line, &tied, model.inputs.as_slice())?;
     take_tied(alloc, sub.line, &tied, model.clocks.as_slice())?;
     Ok(())
@@ -113,7 +124,7 @@ fn find_model<'a>(
     name: &[u8],
 ) -> Option<(&'a BlifModel, &'a Names)>
     requires { AreTables blif.now tables.now }
-    ensures found { IfSome result (λ p. (is_model blif.entry.now name.now ≡ true) × (p.0.now ≡ model_at blif.entry.now (model_numbered blif.entry.now name.now)) × (p.1.now ≡ distinct (interface_of p.0.now))) }
+    ensures found { IfSome result (λ p. (is_model blif.entry.now name.now ≡ true) × (p.0.now ≡ model_at blif.entry.now (model_numbered blif.entry.now name.now)) × IsInterfaceSet p.0.now p.1.now) }
     ensures unknown { IfNone result (is_model blif.entry.now name.now ≡ false) }
 {
     let number = tables.names.place(name)?;

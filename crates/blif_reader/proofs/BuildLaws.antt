@@ -5,8 +5,7 @@ use Rattle.std.proofs.Common.{◌≡◌, ◌<◌, ◌+◌, drop, flat_map, get_o
 use Rattle.names.specs.Names.{distinct_by, distinct_from}
 use Rattle.vrt_model.specs.Lists.{has_name}
 use Rattle.blif_reader.specs.Built.{with_signal, with_signals}
-use Rattle.blif_reader.specs.Models.{names, signals_on}
-use Rattle.blif_reader.specs.declared.signals.Listed.{Listed}
+use Rattle.blif_reader.specs.Models.{Listed, names, signals_on}
 
 pub signals_append : (found xs ys : List Listed) → with_signals found (xs ++ ys) ≡ with_signals (with_signals found xs) ys
 signals_append found [] ys = refl

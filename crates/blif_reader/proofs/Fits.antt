@@ -17,13 +17,12 @@ use Rattle.vrt_model.specs.declared.blif.BlifModel.{BlifModel}
 use Rattle.vrt_model.specs.declared.blif.LatchKind.{LatchKind}
 use Rattle.vrt_model.specs.declared.blif.LatchLine.{LatchLine}
 use Rattle.blif_reader.specs.Learned.{cover_behind, with_row}
-use Rattle.blif_reader.specs.Models.{begins_model, blif_of, cover_inputs, cover_of, covers_in, end_of, ends_model, first_output, init_of, is_cover, is_dotted, is_exdc, is_latch, is_sub, latch_end, latch_kind, latch_of, latches_in, listed, lines, model_name, model_of, names, network_cards, own_cards, row_inputs, with_kind}
+use Rattle.blif_reader.specs.Models.{Listed, begins_model, blif_of, cover_inputs, cover_of, covers_in, end_of, ends_model, first_output, init_of, is_cover, is_dotted, is_exdc, is_latch, is_sub, latch_end, latch_kind, latch_of, latches_in, listed, lines, model_name, model_of, names, network_cards, own_cards, row_inputs, with_kind}
 use Rattle.blif_reader.specs.Refused.{fault_by, fault_of, faults_on, fits, is_bad_row, is_input_byte, is_model_twice, is_output_word, is_row, is_short, known_by, passes_limit}
 use Rattle.blif_reader.specs.declared.cards.Card.{Card}
 use Rattle.blif_reader.specs.declared.known.Known.{Known}
 use Rattle.blif_reader.specs.declared.known.OpenCover.{OpenCover}
 use Rattle.blif_reader.specs.declared.latches.LatchEnd.{LatchEnd}
-use Rattle.blif_reader.specs.declared.signals.Listed.{Listed}
 use Rattle.blif_reader.specs.declared.faults.BlifFault.TheVariants.{Limit, ModelTwice, Row, Short}
 use Rattle.names.proofs.ApartLaws.{NoRepeat, apart_by}
 use Rattle.names.proofs.NewLaws.{AreNew, distinct_by_apart, new_apart}

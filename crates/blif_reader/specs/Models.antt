@@ -7,7 +7,6 @@ use Rattle.names.specs.Names.{distinct_by}
 use Rattle.blif_reader.specs.Cards.{first_word, has_first}
 use Rattle.blif_reader.specs.declared.cards.Card.{Card}
 use Rattle.blif_reader.specs.declared.latches.LatchEnd.{LatchEnd}
-use Rattle.blif_reader.specs.declared.signals.Listed.{Listed}
 use Rattle.vrt_model.specs.declared.blif.Blif.{Blif}
 use Rattle.vrt_model.specs.declared.blif.BlifModel.{BlifModel}
 use Rattle.vrt_model.specs.declared.blif.CoverLine.{CoverLine}
@@ -44,6 +43,11 @@ abbrev pub is_dotted : Card → Bool
 is_dotted card = starts 46 (first_word card)
 
 -- ---- lists of signals
+
+-- a signal, and the line of the card that lists it
+pub record Listed : Type 0 where
+  pub line : ℕ
+  pub name : List ℕ
 
 -- the signals that a card lists, each with the card's line, if it is a card of this first word
 abbrev pub listed_on : ℕ → List ℕ → Listed

@@ -1,9 +1,9 @@
 //! Lists of signals: the inputs, the clocks and the outputs of a model.
 
-ghost use Rattle.std.specs.Prelude.{◌≡◌, ◌++◌, ◌∷◌, [], map, IfOk, OnOk};
+ghost use Rattle.std.specs.Prelude.{◌≡◌, List, map, IfOk, OnOk};
 ghost use Rattle.text_lines.specs.Bytes.{words_of};
-ghost use Rattle.blif_reader.specs.Built.{with_signal, with_signals};
-ghost use Rattle.blif_reader.specs.Models.{listed, listed_on, signals_on, names, lines};
+ghost use Rattle.blif_reader.specs.Built.{AreListed, with_signal, with_signals};
+ghost use Rattle.blif_reader.specs.Models.{Listed, listed, listed_on, signals_on, names, lines};
 
 use crate::cards::Card;
 use crate::words::is_first;
@@ -12,42 +12,21 @@ use std::alloc::Global;
 use text_lines::first_word;
 use vrt_model::{NoMemory, Seq, Text};
 
-/// A signal, and the line of the card that lists it first.
-pub struct Listed {
-    /// The line of the card that lists the signal first, from 1.
-    pub line: u32,
-    /// The name of the signal as written.
-    pub name: Text,
-}
-
-/// By hand, so that letting go of one is a call.
-impl Drop for Listed {
-    fn drop(self) {
-        let Listed {
-            line: _line,
-            name: _name,
-        } = self;
-    }
-}
-
-/// Adds a signal, unless it is there.
+/// Adds a signal and the line of the card that lists it, unless it is there.
 fn add_signal(
-    alloc: Global,
     seen: &mut Names,
-    found: &mut Seq<Listed>,
+    numbers: &mut Seq<u32>,
     line: u32,
     name: &[u8],
 ) -> Result<(), NoMemory>
-    requires { seen.old ≡ names found.old }
-    ensures seen { OnOk result (seen.new ≡ names found.new) }
-    ensures found { OnOk result (found.new ≡ with_signal found.old (listed_on line name.now)) }
+    ensures { OnOk result ((found : List Listed) → AreListed seen.old numbers.old found → AreListed seen.new numbers.new (with_signal found (listed_on line name.now))) }
 {
-    if seen.contains(name) {
+    let count = seen.len();
+    seen.number(name)?;
+    if seen.len() == count {
         return Ok(());
     }
-    seen.number(name)?;
-    let name = Text::from_bytes(alloc, name)?;
-    match found.push(Listed { line, name }) {
+    match numbers.push(line) {
         Ok(()) => Ok(()),
         Err(_) => Err(NoMemory),
     }
@@ -55,19 +34,16 @@ fn add_signal(
 
 /// Adds the signals of a card, those that are not there.
 fn add_signals(
-    alloc: Global,
     seen: &mut Names,
-    found: &mut Seq<Listed>,
+    numbers: &mut Seq<u32>,
     line: u32,
     listing: &[u8],
 ) -> Result<(), NoMemory>
-    requires { seen.old ≡ names found.old }
-    ensures seen { OnOk result (seen.new ≡ names found.new) }
-    ensures found { OnOk result (found.new ≡ with_signals found.old (map (listed_on line) (words_of listing.now))) }
+    ensures { OnOk result ((found : List Listed) → AreListed seen.old numbers.old found → AreListed seen.new numbers.new (with_signals found (map (listed_on line) (words_of listing.now)))) }
 {
     let mut left = listing;
     'names: while let Some((name, behind)) = first_word(left) {
-        add_signal(alloc, seen, found, line, name)?;
+        add_signal(seen, numbers, line, name)?;
         left = behind;
     }
     Ok(())
@@ -75,60 +51,30 @@ fn add_signals(
 
 /// Adds the signals that a card lists, if it is a card of this first word.
 fn add_card(
-    alloc: Global,
     seen: &mut Names,
-    found: &mut Seq<Listed>,
+    numbers: &mut Seq<u32>,
     word: &[u8],
     card: &Card,
 ) -> Result<(), NoMemory>
-    requires { seen.old ≡ names found.old }
-    ensures seen { OnOk result (seen.new ≡ names found.new) }
-    ensures found { OnOk result (found.new ≡ with_signals found.old (signals_on word.now card.now)) }
+    ensures { OnOk result ((found : List Listed) → AreListed seen.old numbers.old found → AreListed seen.new numbers.new (with_signals found (signals_on word.now card.now))) }
 {
     if !is_first(card, word) {
         return Ok(());
     }
     let (_, listing) = card.words.parts();
-    add_signals(alloc, seen, found, card.line, listing)
+    add_signals(seen, numbers, card.line, listing)
 }
 
-/// The signals that the cards of this first word list, each once.
-fn list_signals(alloc: Global, word: &[u8], body: &[Card]) -> Result<Seq<Listed>, NoMemory>
-    ensures { IfOk result (λ found. found ≡ listed word.now body.now) }
+/// The signals that the cards of this first word list, each once: their names, and the line that lists each first.
+fn list_signals(alloc: Global, word: &[u8], body: &[Card]) -> Result<(Names, Seq<u32>), NoMemory>
+    ensures { IfOk result (λ two. AreListed two.0 two.1 (listed word.now body.now)) }
 {
     let mut seen = Names::new(alloc);
-    let mut found = Seq::new(alloc);
-    for card in body {
-        add_card(alloc, &mut seen, &mut found, word, card)?;
-    }
-    Ok(found)
-}
-
-/// The names of signals.
-fn names_of(alloc: Global, signals: &[Listed]) -> Result<Seq<Text>, NoMemory>
-    ensures { IfOk result (λ texts. texts ≡ names signals.now) }
-{
-    let mut texts = Seq::new(alloc);
-    for signal in signals {
-        let name = Text::from_bytes(alloc, signal.name.as_bytes())?;
-        if texts.push(name).is_err() {
-            return Err(NoMemory);
-        }
-    }
-    Ok(texts)
-}
-
-/// The lines of signals.
-fn lines_of(alloc: Global, signals: &[Listed]) -> Result<Seq<u32>, NoMemory>
-    ensures { IfOk result (λ numbers. numbers ≡ lines signals.now) }
-{
     let mut numbers = Seq::new(alloc);
-    for signal in signals {
-        if numbers.push(signal.line).is_err() {
-            return Err(NoMemory);
-        }
+    for card in body {
+        add_card(&mut seen, &mut numbers, word, card)?;
     }
-    Ok(numbers)
+    Ok((seen, numbers))
 }
 
 /// The signals that the cards of this first word list, each once, and the line that lists each first.
@@ -139,8 +85,7 @@ pub fn signals_of(
 ) -> Result<(Seq<Text>, Seq<u32>), NoMemory>
     ensures { IfOk result (λ two. (two.0 ≡ names (listed word.now body.now)) × (two.1 ≡ lines (listed word.now body.now))) }
 {
-    let found = list_signals(alloc, word, body)?;
-    let texts = names_of(alloc, found.as_slice())?;
-    let numbers = lines_of(alloc, found.as_slice())?;
+    let (seen, numbers) = list_signals(alloc, word, body)?;
+    let texts = seen.to_texts(alloc)?;
     Ok((texts, numbers))
 }

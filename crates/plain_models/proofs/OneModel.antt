@@ -7,9 +7,8 @@ use Rattle.std.proofs.lemmas.List.Folds.{list_any-append}
 use Rattle.names.proofs.ApartLaws.{NoRepeat, once_by}
 use Rattle.names.specs.Names.{distinct_by, distinct_from}
 use Rattle.blif_reader.specs.Cards.{cards_of, has_first}
-use Rattle.blif_reader.specs.Models.{begins_model, blif_of, cover_of, end_of, ends_model, first_output, covers_in, is_cover, is_dotted, is_exdc, is_latch, is_sub, latch_of, latches_in, lines, listed, listed_on, model_of, names, network_cards, own_cards, row_inputs, signals_on, sub_of}
+use Rattle.blif_reader.specs.Models.{Listed, begins_model, blif_of, cover_of, end_of, ends_model, first_output, covers_in, is_cover, is_dotted, is_exdc, is_latch, is_sub, latch_of, latches_in, lines, listed, listed_on, model_of, names, network_cards, own_cards, row_inputs, signals_on, sub_of}
 use Rattle.blif_reader.specs.declared.cards.Card.{Card}
-use Rattle.blif_reader.specs.declared.signals.Listed.{Listed}
 use Rattle.plain_models.proofs.CardKinds.{Each, Fits, IsNo, covers_are_no, each_joined, each_mapped, good_rows, row_is_no, row_is_on, row_undotted}
 use Rattle.plain_models.proofs.NoFaults.{covers_each, good_lines}
 use Rattle.plain_models.proofs.ReadBack.{lines_are_read}

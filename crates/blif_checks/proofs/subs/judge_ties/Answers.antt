@@ -8,7 +8,7 @@ returns-in_err-take_formals c =
     let p = err_from_is_err_and c.from_residual.result c.from_residual.ensures.1 in
     rw (p.1, p.2) (elim c.in_err-take_formals.ensures.fault [
       | inl h ↦ inl h
-      | inr h ↦ inr (sub_first c.args.sub.now c.args.model.now c.args.interface.now _ _ c.requires c.as_slice.ensures h)
+      | inr h ↦ inr (sub_first c.args.sub.now c.args.model.now _ _ c.as_slice.ensures h)
     ])
 
 pub returns-in_err-take_tied : goal.returns-in_err-take_tied
@@ -17,7 +17,7 @@ returns-in_err-take_tied c =
     rw (p.1, p.2) (elim c.in_err-take_tied.ensures [
       | inl h ↦ inl h
       | inr h ↦
-          inr (sub_rest c.args.sub.now c.args.model.now c.args.interface.now c.take_formals.new.seen _ _ c.args.model.now.clocks _ _ c.requires c.as_slice.ensures c.as_slice-2.ensures refl c.in_ok-take_formals.ensures.seen
+          inr (sub_rest c.args.sub.now c.args.model.now c.take_formals.new.seen _ _ c.args.model.now.clocks _ _ c.as_slice.ensures c.as_slice-2.ensures refl c.in_ok-take_formals.ensures.seen
           c.in_ok-take_formals.ensures.fault h refl)
     ])
 
@@ -27,11 +27,11 @@ returns-in_err-take_tied-2 c =
     rw (p.1, p.2) (elim c.in_err-take_tied-2.ensures [
       | inl h ↦ inl h
       | inr h ↦
-          inr (sub_rest c.args.sub.now c.args.model.now c.args.interface.now c.take_formals.new.seen _ _ _ _ _ c.requires c.as_slice.ensures c.as_slice-2.ensures c.as_slice-3.ensures c.in_ok-take_formals.ensures.seen
+          inr (sub_rest c.args.sub.now c.args.model.now c.take_formals.new.seen _ _ _ _ _ c.as_slice.ensures c.as_slice-2.ensures c.as_slice-3.ensures c.in_ok-take_formals.ensures.seen
           c.in_ok-take_formals.ensures.fault c.in_ok-take_tied.ensures h)
     ])
 
 pub returns : goal.returns
 returns c =
-    sub_rest c.args.sub.now c.args.model.now c.args.interface.now c.take_formals.new.seen _ _ _ _ _ c.requires c.as_slice.ensures c.as_slice-2.ensures c.as_slice-3.ensures c.in_ok-take_formals.ensures.seen
+    sub_rest c.args.sub.now c.args.model.now c.take_formals.new.seen _ _ _ _ _ c.as_slice.ensures c.as_slice-2.ensures c.as_slice-3.ensures c.in_ok-take_formals.ensures.seen
     c.in_ok-take_formals.ensures.fault c.in_ok-take_tied.ensures c.in_ok-take_tied-2.ensures
