@@ -24,7 +24,7 @@ use Rattle.vrt_model.specs.declared.flat_model.Cover.{Cover}
 
 -- ---- what is read
 
-among_drop : {X : Type 0} (n : ℕ) (xs : List X) (x : X) → Among (drop n xs) x → Among xs x
+pub among_drop : {X : Type 0} (n : ℕ) (xs : List X) (x : X) → Among (drop n xs) x → Among xs x
 among_drop zero xs x m = m
 among_drop (suc n) [] x m = m
 among_drop (suc n) (y ∷ xs) x m = let rest = among_drop n xs x m in among_later y xs x rest

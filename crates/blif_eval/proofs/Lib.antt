@@ -14,3 +14,4 @@ pub mod OperationLaws
 pub mod RowLaws
 pub mod CountLaws
 pub mod SelectLaws
+pub mod FullLaws

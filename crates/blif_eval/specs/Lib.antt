@@ -1,5 +1,6 @@
 pub mod Drivers
 pub mod Evaluated
+pub mod FullRows
 pub mod KnownBits
 pub mod Learning
 pub mod OneAssignment

@@ -14,6 +14,7 @@ ghost use Rattle.vrt_model.specs.FlatModels.{IsCover};
 ghost use Rattle.vrt_model.specs.Lists.{is_empty};
 
 use crate::choice::choose;
+use crate::full_rows::{is_tree, tree_diagram};
 use bdd_core::{H, ONE, Spent, Store, ZERO};
 use bdd_ops::{not, or};
 use node_pool::Span;
@@ -34,7 +35,7 @@ fn literal(store: &mut Store, byte: u8, value: H, rest: H) -> Result<H, Spent>
 }
 
 /// The handle of a signal.
-fn value_of(store: &Store, values: Span, signal: u32) -> H
+pub(crate) fn value_of(store: &Store, values: Span, signal: u32) -> H
     requires live { IsSpan store.now values }
     requires within { signal < values.len }
     ensures { result.0 ≡ word_at store.now values signal }
@@ -119,7 +120,7 @@ fn row_by_row(store: &mut Store, cover: &Cover, values: Span) -> Result<H, Spent
 }
 
 /// A row of a cover, and no bytes past its rows.
-fn row_at(rows: &[Text], at: usize) -> &[u8]
+pub(crate) fn row_at(rows: &[Text], at: usize) -> &[u8]
     ensures { result.now ≡ get_or rows.now at [] }
 {
     if at < rows.len() {
@@ -277,7 +278,7 @@ fn selected(store: &mut Store, cover: &Cover, at: usize, values: Span) -> Result
 }
 
 /// The valuations at which some row of a cover fits. Two rows that ask opposite bits of an input, as those of an exclusive
-/// or and of a selection do, are taken by one `ite`.
+/// or and of a selection do, are taken by one `ite`, and several rows that ask a bit of every input by a tree of them.
 fn rows_diagram(store: &mut Store, cover: &Cover, values: Span) -> Result<H, Spent>
     requires span { IsSpan store.old values }
     requires live { IsFilled store.old values }
@@ -285,9 +286,13 @@ fn rows_diagram(store: &mut Store, cover: &Cover, values: Span) -> Result<H, Spe
     ensures gives { Gives store.old store.new (λ v. some_row_fits (bits_in store.old values v) cover.now.inputs cover.now.rows) result }
     ensures counts { (u : ℕ) → IsSpanWithin u store.old values → Counts u (rows_operations cover.now.rows) store.old store.new result }
 {
-    match selector(store, cover, values) {
-        Some(at) => selected(store, cover, at, values),
-        None => row_by_row(store, cover, values),
+    if let Some(at) = selector(store, cover, values) {
+        return selected(store, cover, at, values);
+    }
+    if is_tree(cover) {
+        tree_diagram(store, cover, values)
+    } else {
+        row_by_row(store, cover, values)
     }
 }
 
@@ -301,7 +306,9 @@ pub(crate) fn is_of_rows(cover: &Cover) -> bool
 /// The function of a cover, from the functions of its inputs: with rows of the on-set, or with no rows, 1 where some row
 /// fits, and with rows of the off-set 1 where none fits. `values` holds a handle for each signal. Rows are built from
 /// their last input to their first. Where a cover has two rows and these ask opposite bits of an input, as those of an
-/// exclusive or, of its complement and of a selection do, this input selects between them by one `ite`.
+/// exclusive or, of its complement and of a selection do, this input selects between them by one `ite`. Of three to
+/// sixteen rows that ask a bit of every input, as those of the sum of three bits do, each input selects, from the first
+/// to the last, which of the rows are left.
 ///
 /// It takes at most one operation for each literal, which is a `0` or a `1` of a row, and two for each row. Where the
 /// handles read only the first `u` variables, each operation adds fewer than `2 ^ u` nodes, and `Spent` comes only where

@@ -6,6 +6,7 @@ mod choice;
 mod cover;
 mod driver_table;
 mod eval;
+mod full_rows;
 mod graph;
 mod known;
 mod learning;

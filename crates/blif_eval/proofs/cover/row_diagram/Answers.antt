@@ -1,4 +1,4 @@
-use Rattle.std.proofs.Common.{◌≡◌, ℕ, arith, ◌+◌, ◌&&◌, ◌<◌, ◌≤◌, ◌-◌, List, drop, get_or, length, Err, Ok, ap, refl, subst}
+use Rattle.std.proofs.Common.{◌≡◌, ℕ, arith, ◌+◌, ◌&&◌, ◌<◌, ◌-◌, List, drop, get_or, length, Err, Ok, ap, refl, subst}
 use Rattle.std.specs.Prelude.{set}
 use Rattle.std.proofs.lemmas.List.{length-set}
 use Rattle.bdd_core.specs.Diagram.{Function, IsWithin}

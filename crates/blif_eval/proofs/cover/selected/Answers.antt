@@ -1,4 +1,4 @@
-use Rattle.std.proofs.Common.{◌+◌, ◌≡◌, ◌∙◌, List, ℕ, length, ap, sym}
+use Rattle.std.proofs.Common.{◌+◌, ◌∙◌, List, ℕ, length, ap, sym}
 use Rattle.bdd_ops.proofs.CountingLaws.{counts_more}
 use Rattle.blif_eval.proofs.SelectLaws.{rows_wide, selector_bytes, two_counted, two_give}
 use Rattle.blif_eval.specs.Operations.{rows_operations}
