@@ -95,8 +95,7 @@ fn check_net(
     requires care { IsLive store.old care }
     requires gates { IsSpan store.old gates × IsFilled store.old gates }
     requires out { IsSpan store.old out.span × IsFilled store.old out.span }
-    requires place { (net.0 < gates.len) × (net_words out.source * place + net_words out.source ≤ out.span.len) × (out.span.len < 2 ^ 32) }
-    requires ready { AreReady way store.old out place }
+    requires place { (net.0 < gates.len) × (net_words out.source * place + net_words out.source ≤ out.span.len) × (out.span.len < 2 ^ 32) × AreReady way store.old out place }
     ensures writes { Writes gates store.old store.new }
     ensures apart { (k : ℕ) → k ≢ net.0 → word_at store.new gates k ≡ word_at store.old gates k }
     ensures gives { IfOk result (λ found. NetGives (function_of store.old care) (reach_of way store.old out false place) (reach_of way store.old out true place) seen net store.new found) }
@@ -136,8 +135,7 @@ pub(crate) fn scan(
 ) -> Result<Option<CircuitFault>, Spent>
     requires care { IsLive store.old care }
     requires gates { IsSpan store.old gates × IsFilled store.old gates }
-    requires nets { All (λ (n : Net). (n.0 < gates.len) × (n.0 < length observed.now)) part.now.nets }
-    requires once { (i j n : ℕ) → IsPlace part.now i n → IsPlace part.now j n → i ≡ j }
+    requires nets { All (λ (n : Net). (n.0 < gates.len) × (n.0 < length observed.now)) part.now.nets × ((i j n : ℕ) → IsPlace part.now i n → IsPlace part.now j n → i ≡ j) }
     requires out { IsSpan store.old out.span × IsFilled store.old out.span × (out.span.len ≡ net_words out.source * length part.now.nets) × (out.span.len < 2 ^ 32) }
     requires apart { IsApart out.span gates }
     requires ready { (i : ℕ) → i < length part.now.nets → AreReady way store.old out i }

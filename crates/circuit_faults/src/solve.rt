@@ -32,14 +32,11 @@ fn solve(
     roots: Span,
     out: NetWords,
 ) -> Result<(), Spent>
-    requires circuit { HasRanges circuit.now }
-    requires part { IsPart circuit.now part.now }
-    requires soft { AreSoftInside circuit.now part.now }
+    requires part { HasRanges circuit.now × IsPart circuit.now part.now × AreSoftInside circuit.now part.now }
     requires spans { HasRootSpans circuit.now part.now gates roots out store.old }
     requires apart { IsApart roots gates }
     requires way { IsWay way circuit.now part.now gates roots store.old }
-    ensures beside { WritesTwo out.span out.span store.old store.new }
-    ensures writes { IfOk result (λ _. Writes out.span store.old store.new) }
+    ensures writes { WritesTwo out.span out.span store.old store.new × IfOk result (λ _. Writes out.span store.old store.new) }
     ensures tells { IfOk result (λ _. TellsWhere circuit.now part.now roots gates (reach_of way store.new out) store.old) }
     ensures ready { IfOk result (λ _. (i : ℕ) → i < length part.now.nets → AreReady way store.new out i) }
     ensures few { HasOneHold circuit.now → (u operations : ℕ) → IsSpanWithin u store.old gates → IsSpanWithin u store.old roots → IsSolvedBy operations way circuit.now part.now → Spends u operations out.span store.old store.new result }
@@ -66,11 +63,9 @@ pub(crate) fn check_part(
     gates: Span,
     out: NetWords,
 ) -> Result<Option<CircuitFault>, Spent>
-    requires circuit { HasRanges circuit.now }
-    requires part { IsPart circuit.now part.now }
+    requires part { HasRanges circuit.now × IsPart circuit.now part.now × AreSoftInside circuit.now part.now }
     requires observed { length observed.now ≡ length circuit.now.nets }
     requires care { IsLive store.old care }
-    requires soft { AreSoftInside circuit.now part.now }
     requires spans { HasRootSpans circuit.now part.now gates roots out store.old }
     requires apart { IsApart roots gates }
     ensures writes { WritesTwo gates out.span store.old store.new }

@@ -34,9 +34,7 @@ pub fn solve_small(
     roots: Span,
     out: Span,
 ) -> Result<(), Spent>
-    requires circuit { HasRanges circuit.now }
-    requires part { IsPart circuit.now part.now }
-    requires soft { AreSoftInside circuit.now part.now }
+    requires part { HasRanges circuit.now × IsPart circuit.now part.now × AreSoftInside circuit.now part.now }
     requires spans { HasRootSpans circuit.now part.now gates roots (circuit_words circuit.now out) store.old }
     requires apart { IsApart roots gates }
     requires small { IsSmall functions circuit.now part.now gates roots store.old }

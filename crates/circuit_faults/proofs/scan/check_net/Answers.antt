@@ -13,7 +13,7 @@ use Rattle.circuit_faults.proofs.scan.check_net.Goals as goal
 
 pub bit_at-requires-clause-ready : goal.bit_at-requires-clause-ready
 bit_at-requires-clause-ready c =
-    ready_added c.args.out c.args.store.now c.fault_at.new.store c.in-Ok.ensures.adds c.requires.out.1 c.args.way c.args.place c.requires.place.1 c.requires.ready
+    ready_added c.args.out c.args.store.now c.fault_at.new.store c.in-Ok.ensures.adds c.requires.out.1 c.args.way c.args.place c.requires.place.1 c.requires.place.3
 
 pub returns-in-Err-clause-few : goal.returns-in-Err-clause-few
 returns-in-Err-clause-few c u care gates out few =
@@ -45,7 +45,7 @@ returns-in-Err-bit_at-clause-few c u care gates out few =
     let mid = c.fault_at.new.store in
     let new = c.bit_at.new.store in
     let out_mid = span_within u c.args.out.span old mid c.in-Ok.ensures.adds c.requires.out.1 out in
-    let few_mid = few_added c.args.out old mid c.in-Ok.ensures.adds c.requires.out.1 u c.args.way c.args.place c.requires.ready few in
+    let few_mid = few_added c.args.out old mid c.in-Ok.ensures.adds c.requires.out.1 u c.args.way c.args.place c.requires.place.3 few in
     spends_refused u c.args.gates (scan_operations c.args.way) old new c.in-Err-bit_at.spent
     (counts_then u (fault_operations c.args.way) (bit_operations c.args.way) old mid new (Err c.in-Err-bit_at.spent) (c.in-Ok.ensures.counts u care out few).added (c.in-Err-bit_at.ensures.finds u out_mid few_mid).counts)
 
@@ -59,7 +59,7 @@ returns-clause-few c u care gates out few =
     let second = c.in-Ok-bit_at.ensures.gives.adds in
     let adds = nodes_then old mid next first second in
     let out_mid = span_within u c.args.out.span old mid first c.requires.out.1 out in
-    let few_mid = few_added c.args.out old mid first c.requires.out.1 u c.args.way c.args.place c.requires.ready few in
+    let few_mid = few_added c.args.out old mid first c.requires.out.1 u c.args.way c.args.place c.requires.place.3 few in
     let found = c.in-Ok-bit_at.ensures.finds u out_mid few_mid in
     let words : length next.words ≡ length old.words = ap (λ (ws : List ℕ). length ws) (adds_words old next old.words adds) in
     spends_rewrites u c.args.gates (scan_operations c.args.way) old next new _ (counted_then u (fault_operations c.args.way) (bit_operations c.args.way) old mid next (c.in-Ok.ensures.counts u care out few).added found.counts.added)
@@ -80,4 +80,4 @@ returns-clause-bit c e seen v =
     ap (λ (k : ℕ). meaning new.nodes k v) word
     ∙ ap (λ (ns : List Node). meaning ns bit.0 v) (ap (λ (d : Diagrams). d.nodes) c.write.ensures)
     ∙ c.in-Ok-bit_at.ensures.gives.ok.same v
-    ∙ reach_added c.args.out old mid c.in-Ok.ensures.adds c.requires.out.1 c.args.way true c.args.place c.requires.place.1 c.requires.ready v
+    ∙ reach_added c.args.out old mid c.in-Ok.ensures.adds c.requires.out.1 c.args.way true c.args.place c.requires.place.1 c.requires.place.3 v

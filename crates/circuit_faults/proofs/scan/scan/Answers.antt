@@ -38,20 +38,14 @@ check_net-requires-clause-place c =
     let i = c.loop-i.i in
     let net : Net = get_or c.as_slice-nets.result.now i (record { 0 = 0 }) in
     let there : At part.nets i net = net_at part.nets c.as_slice-nets.result.now i (record { 0 = 0 }) c.as_slice-nets.ensures c.loop-i-test.true in
-    let shown : length c.as_slice-nets.result.now ≡ length part.nets = ap (λ (xs : List Net). length xs) c.as_slice-nets.ensures in (
-      (all_among (λ (n : Net). (n.0 < c.args.gates.len) × (n.0 < length c.args.observed.now)) part.nets net c.requires.nets (i, there)).0,
-      place_words c.args.out (length part.nets) i c.requires.out.2 (omega (arith, shown, c.loop-i-test.true)),
-      c.requires.out.3,
-    )
-
-pub check_net-requires-clause-ready : goal.check_net-requires-clause-ready
-check_net-requires-clause-ready c =
-    let part = c.args.part.now in
-    let i = c.loop-i.i in
     let shown : length c.as_slice-nets.result.now ≡ length part.nets = ap (λ (xs : List Net). length xs) c.as_slice-nets.ensures in
     let inside : i < length part.nets = omega (arith, shown, c.loop-i-test.true) in
-    ready_kept c.args.gates c.args.out c.args.store.now c.loop-i.store c.loop-i.invariant.writes c.requires.apart c.requires.out.1 c.args.way i
-    (place_words c.args.out (length part.nets) i c.requires.out.2 inside) (c.requires.ready i inside)
+    let fits = place_words c.args.out (length part.nets) i c.requires.out.2 inside in (
+      (all_among (λ (n : Net). (n.0 < c.args.gates.len) × (n.0 < length c.args.observed.now)) part.nets net c.requires.nets.0 (i, there)).0,
+      fits,
+      c.requires.out.3,
+      ready_kept c.args.gates c.args.out c.args.store.now c.loop-i.store c.loop-i.invariant.writes c.requires.apart c.requires.out.1 c.args.way i fits (c.requires.ready i inside),
+    )
 
 pub loop-i-preserved : goal.loop-i-preserved
 loop-i-preserved c =
@@ -79,10 +73,10 @@ loop-i-preserved c =
     let clear : IsClearNet (function_of old care) zero one (mark_at c.args.observed.now net.0) = subst (λ (b : Bool). IsClearNet (function_of old care) zero one b) c.is_seen-seen.ensures gives in
     record {
       writes = writes_then gates first old new wr c.check_net.ensures.writes;
-      scanned = scanned_more part (mark_at c.args.observed.now) care gates (reach_of way first out) c.requires.once first old wr c.requires.care i net place c.loop-i.invariant.scanned zero one
+      scanned = scanned_more part (mark_at c.args.observed.now) care gates (reach_of way first out) c.requires.nets.1 first old wr c.requires.care i net place c.loop-i.invariant.scanned zero one
           (reach_kept gates out first old wr c.requires.apart c.requires.out.1 way false i fits ready) (reach_kept gates out first old wr c.requires.apart c.requires.out.1 way true i fits ready)
           new c.check_net.ensures.writes wr.live clear (λ seen. c.in-Ok.ensures.bit c.in_default.is (c.is_seen-seen.ensures ∙ seen)) c.check_net.ensures.apart
-          (λ n at. subst (λ (k : ℕ). k < gates.len) at.1.2 (all_among (λ (m : Net). (m.0 < gates.len) × (m.0 < length c.args.observed.now)) part.nets at.1.0 c.requires.nets (at.0, at.1.1)).0);
+          (λ n at. subst (λ (k : ℕ). k < gates.len) at.1.2 (all_among (λ (m : Net). (m.0 < gates.len) × (m.0 < length c.args.observed.now)) part.nets at.1.0 c.requires.nets.0 (at.0, at.1.1)).0);
       counted = λ u care_in gates_in out_in few_in.
           let before = c.loop-i.invariant.counted u care_in gates_in out_in few_in in
           let one = c.in-Ok.ensures.few u (within_same u (function_of first care) (function_of old care) (wr.adds.kept care.0 c.requires.care) care_in) before.1
@@ -120,7 +114,7 @@ returns-in-Some-clause-gives c =
     let inside : i < length part.nets = omega (arith, shown, c.loop-i-test.true) in
     let fits = place_words out (length part.nets) i c.requires.out.2 inside in
     let ready = c.requires.ready i inside in
-    found_at part (mark_at c.args.observed.now) care c.args.gates (reach_of way first out) c.requires.once first old wr c.requires.care i net (net, there, refl) c.loop-i.invariant.scanned zero one
+    found_at part (mark_at c.args.observed.now) care c.args.gates (reach_of way first out) c.requires.nets.1 first old wr c.requires.care i net (net, there, refl) c.loop-i.invariant.scanned zero one
     (reach_kept c.args.gates out first old wr c.requires.apart c.requires.out.1 way false i fits ready) (reach_kept c.args.gates out first old wr c.requires.apart c.requires.out.1 way true i fits ready)
     new c.in-Some.fault gives.0 (subst (λ (b : Bool). IsFaultyNet (function_of old care) zero one b c.in-Some.fault.kind c.in-Some.fault.at new) c.is_seen-seen.ensures gives.1)
 

@@ -20,7 +20,7 @@ pub returns-clause-gives : goal.returns-clause-gives
 returns-clause-gives c =
     if_ok_more _ _ c.scan.result
     (λ found s. part_gives c.args.circuit.now c.args.part.now (mark_at c.args.observed.now) c.args.care c.args.roots c.args.gates c.args.out (reach_of c.few_functions-way.result c.solve.new.store c.args.out)
-    c.args.store.now c.solve.new.store c.scan.new.store c.requires.spans c.requires.care c.in-Ok.ensures.writes c.in-Ok.ensures.tells found s)
+    c.args.store.now c.solve.new.store c.scan.new.store c.requires.spans c.requires.care c.in-Ok.ensures.writes.1 c.in-Ok.ensures.tells found s)
     c.scan.ensures.gives
 
 pub returns-in-Err-clause-few : goal.returns-in-Err-clause-few
@@ -48,7 +48,7 @@ returns-clause-few c one u care gates roots =
     let room = way_room way circuit part c.args.gates c.args.roots old (way_is way circuit part c.args.gates c.args.roots old c.few_functions-way.ensures) in
     let mid = c.solve.new.store in
     let new = c.scan.new.store in
-    let writes = c.in-Ok.ensures.writes in
+    let writes = c.in-Ok.ensures.writes.1 in
     let spans = c.requires.spans in
     let solved = c.in-Ok.ensures.few one u room.0 gates roots room.1 in
     spends_more u c.args.gates (room.0 + p * scan_operations way) (s + 4 * p) old new c.scan.result room.2

@@ -73,11 +73,11 @@ returns-in-Some-clause-way c u gates =
 pub solve_part-requires-clause-spans : goal.solve_part-requires-clause-spans
 solve_part-requires-clause-spans c = spans_words c.args.circuit.now c.args.part.now c.args.gates c.args.roots c.args.out c.requires.spans.spans.source c.args.store.now c.requires.spans
 
-pub returns-in-None-clause-beside : goal.returns-in-None-clause-beside
-returns-in-None-clause-beside c = two_same c.args.out.span c.args.store.now c.solve_part.new.store c.solve_part.ensures.writes
-
 pub returns-in-None-clause-writes : goal.returns-in-None-clause-writes
-returns-in-None-clause-writes c = if_ok_more _ _ c.solve_part.result (λ x t. c.solve_part.ensures.writes) c.solve_part.ensures.reaches
+returns-in-None-clause-writes c = (
+  two_same c.args.out.span c.args.store.now c.solve_part.new.store c.solve_part.ensures.writes,
+  if_ok_more _ _ c.solve_part.result (λ x t. c.solve_part.ensures.writes) c.solve_part.ensures.reaches,
+)
 
 pub returns-in-None-clause-tells : goal.returns-in-None-clause-tells
 returns-in-None-clause-tells c =
@@ -86,7 +86,7 @@ returns-in-None-clause-tells c =
     let out = c.args.out in
     if_ok_more _ _ c.solve_part.result
     (λ x t. subst (λ (o : Option PartFunctions). TellsWhere c.args.circuit.now c.args.part.now c.args.roots c.args.gates (reach_of o new out) old) (sym c.in-None.is)
-    (tells_plain c.args.circuit.now c.args.part.now c.args.gates c.args.roots out old new (plain_words c.args.circuit.now c.args.part.now c.args.gates c.args.roots out c.requires.spans.spans.source old new (t c.requires.soft))))
+    (tells_plain c.args.circuit.now c.args.part.now c.args.gates c.args.roots out old new (plain_words c.args.circuit.now c.args.part.now c.args.gates c.args.roots out c.requires.spans.spans.source old new (t c.requires.part.2))))
     c.solve_part.ensures.reaches
 
 pub returns-in-None-clause-ready : goal.returns-in-None-clause-ready
@@ -100,8 +100,8 @@ returns-in-None-clause-few c one u operations gates roots room =
     let spans = c.requires.spans in
     spends_more u c.args.out.span (solving_operations circuit part) operations c.args.store.now c.solve_part.new.store c.solve_part.result
     (subst (λ (o : Option PartFunctions). IsSolvedBy operations o circuit part) c.in-None.is room)
-    (c.solve_part.ensures.few one u (part_gates_within u circuit part c.requires.circuit c.args.gates c.args.store.now spans.spans.gates_len gates)
-    (part_roots_within u circuit part c.requires.part c.args.roots spans.roots_len c.args.store.now roots))
+    (c.solve_part.ensures.few one u (part_gates_within u circuit part c.requires.part.0 c.args.gates c.args.store.now spans.spans.gates_len gates)
+    (part_roots_within u circuit part c.requires.part.1 c.args.roots spans.roots_len c.args.store.now roots))
 
 pub returns-in-None-clause-way : goal.returns-in-None-clause-way
 returns-in-None-clause-way c u gates = subst (λ (o : Option PartFunctions). AreFewAt u o c.solve_part.new.store) (sym c.in-None.is) tt

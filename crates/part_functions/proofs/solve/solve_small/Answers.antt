@@ -23,7 +23,7 @@ small_handles-requires-clause-functions c =
 
 pub small_handles-requires-clause-handles : goal.small_handles-requires-clause-handles
 small_handles-requires-clause-handles c =
-    handles_have c.args.functions c.args.circuit.now c.args.part.now c.args.gates c.args.roots c.args.store.now c.gate_handles-handles.result c.requires.part c.requires.small.reads c.gate_handles-handles.ensures.are
+    handles_have c.args.functions c.args.circuit.now c.args.part.now c.args.gates c.args.roots c.args.store.now c.gate_handles-handles.result c.requires.part.1 c.requires.small.reads c.gate_handles-handles.ensures.are
 
 pub returns-clause-beside : goal.returns-clause-beside
 returns-clause-beside c =
@@ -34,7 +34,7 @@ returns-clause-beside c =
     let live = list_live c.args.functions c.args.circuit.now c.args.part.now c.args.gates c.args.roots d0 c.sound.ensures.sound.ends c.requires.spans.spans.gates_live c.requires.small.reads in
     let d3 : Diagrams = c.solve_part-solved.new.store in
     let d4 : Diagrams = c.write_gates-2.new.store in
-    two_same c.args.out d0 d4 (writes_all c.args.circuit.now c.args.part.now c.requires.part c.requires.circuit c.requires.soft c.args.gates c.args.roots out c.args.functions d0 d1 d2 c.requires.spans c.requires.apart live c.requires.small c.gate_handles-handles.result c.in-Ok.small c.gate_handles-handles.ensures.are c.in-Ok.ensures.adds c.in-Ok.ensures.stand c.write_gates.ensures.writes c.write_gates.ensures.rest c.write_gates.ensures.written d3 d4 c.solve_part-solved.ensures.writes c.write_gates-2.ensures.writes c.write_gates-2.ensures.rest c.write_gates-2.ensures.written)
+    two_same c.args.out d0 d4 (writes_all c.args.circuit.now c.args.part.now c.requires.part.1 c.requires.part.0 c.requires.part.2 c.args.gates c.args.roots out c.args.functions d0 d1 d2 c.requires.spans c.requires.apart live c.requires.small c.gate_handles-handles.result c.in-Ok.small c.gate_handles-handles.ensures.are c.in-Ok.ensures.adds c.in-Ok.ensures.stand c.write_gates.ensures.writes c.write_gates.ensures.rest c.write_gates.ensures.written d3 d4 c.solve_part-solved.ensures.writes c.write_gates-2.ensures.writes c.write_gates-2.ensures.rest c.write_gates-2.ensures.written)
 
 pub returns-clause-writes : goal.returns-clause-writes
 returns-clause-writes c =
@@ -45,7 +45,7 @@ returns-clause-writes c =
     let live = list_live c.args.functions c.args.circuit.now c.args.part.now c.args.gates c.args.roots d0 c.sound.ensures.sound.ends c.requires.spans.spans.gates_live c.requires.small.reads in
     let d3 : Diagrams = c.solve_part-solved.new.store in
     let d4 : Diagrams = c.write_gates-2.new.store in
-    if_ok_more _ _ c.solve_part-solved.result (λ x t. writes_all c.args.circuit.now c.args.part.now c.requires.part c.requires.circuit c.requires.soft c.args.gates c.args.roots out c.args.functions d0 d1 d2 c.requires.spans c.requires.apart live c.requires.small c.gate_handles-handles.result c.in-Ok.small c.gate_handles-handles.ensures.are c.in-Ok.ensures.adds c.in-Ok.ensures.stand c.write_gates.ensures.writes c.write_gates.ensures.rest c.write_gates.ensures.written d3 d4 c.solve_part-solved.ensures.writes c.write_gates-2.ensures.writes c.write_gates-2.ensures.rest c.write_gates-2.ensures.written) c.solve_part-solved.ensures.reaches
+    if_ok_more _ _ c.solve_part-solved.result (λ x t. writes_all c.args.circuit.now c.args.part.now c.requires.part.1 c.requires.part.0 c.requires.part.2 c.args.gates c.args.roots out c.args.functions d0 d1 d2 c.requires.spans c.requires.apart live c.requires.small c.gate_handles-handles.result c.in-Ok.small c.gate_handles-handles.ensures.are c.in-Ok.ensures.adds c.in-Ok.ensures.stand c.write_gates.ensures.writes c.write_gates.ensures.rest c.write_gates.ensures.written d3 d4 c.solve_part-solved.ensures.writes c.write_gates-2.ensures.writes c.write_gates-2.ensures.rest c.write_gates-2.ensures.written) c.solve_part-solved.ensures.reaches
 
 pub returns-clause-reaches : goal.returns-clause-reaches
 returns-clause-reaches c =
@@ -56,7 +56,7 @@ returns-clause-reaches c =
     let live = list_live c.args.functions c.args.circuit.now c.args.part.now c.args.gates c.args.roots d0 c.sound.ensures.sound.ends c.requires.spans.spans.gates_live c.requires.small.reads in
     let d3 : Diagrams = c.solve_part-solved.new.store in
     let d4 : Diagrams = c.write_gates-2.new.store in
-    if_ok_more _ _ c.solve_part-solved.result (λ x t. tells_inner c.args.circuit.now c.args.part.now c.requires.part c.requires.circuit c.requires.soft c.args.gates c.args.roots out c.args.functions d0 d1 d2 c.requires.spans c.requires.apart live c.requires.small c.gate_handles-handles.result c.in-Ok.small c.gate_handles-handles.ensures.are c.in-Ok.ensures.adds c.in-Ok.ensures.stand c.write_gates.ensures.writes c.write_gates.ensures.rest c.write_gates.ensures.written d3 d4 c.solve_part-solved.ensures.writes c.write_gates-2.ensures.writes c.write_gates-2.ensures.rest c.write_gates-2.ensures.written (t c.requires.soft)) c.solve_part-solved.ensures.reaches
+    if_ok_more _ _ c.solve_part-solved.result (λ x t. tells_inner c.args.circuit.now c.args.part.now c.requires.part.1 c.requires.part.0 c.requires.part.2 c.args.gates c.args.roots out c.args.functions d0 d1 d2 c.requires.spans c.requires.apart live c.requires.small c.gate_handles-handles.result c.in-Ok.small c.gate_handles-handles.ensures.are c.in-Ok.ensures.adds c.in-Ok.ensures.stand c.write_gates.ensures.writes c.write_gates.ensures.rest c.write_gates.ensures.written d3 d4 c.solve_part-solved.ensures.writes c.write_gates-2.ensures.writes c.write_gates-2.ensures.rest c.write_gates-2.ensures.written (t c.requires.part.2)) c.solve_part-solved.ensures.reaches
 
 pub returns-clause-inner : goal.returns-clause-inner
 returns-clause-inner c =
@@ -67,7 +67,7 @@ returns-clause-inner c =
     let live = list_live c.args.functions c.args.circuit.now c.args.part.now c.args.gates c.args.roots d0 c.sound.ensures.sound.ends c.requires.spans.spans.gates_live c.requires.small.reads in
     let d3 : Diagrams = c.solve_part-solved.new.store in
     let d4 : Diagrams = c.write_gates-2.new.store in
-    if_ok_more _ _ c.solve_part-solved.result (λ x t. are_inner c.args.circuit.now c.args.part.now c.requires.part c.requires.circuit c.requires.soft c.args.gates c.args.roots out c.args.functions d0 d1 d2 c.requires.spans c.requires.apart live c.requires.small c.gate_handles-handles.result c.in-Ok.small c.gate_handles-handles.ensures.are c.in-Ok.ensures.adds c.in-Ok.ensures.stand c.write_gates.ensures.writes c.write_gates.ensures.rest c.write_gates.ensures.written d3 d4 c.solve_part-solved.ensures.writes c.write_gates-2.ensures.writes c.write_gates-2.ensures.rest c.write_gates-2.ensures.written (t c.requires.soft)) c.solve_part-solved.ensures.reaches
+    if_ok_more _ _ c.solve_part-solved.result (λ x t. are_inner c.args.circuit.now c.args.part.now c.requires.part.1 c.requires.part.0 c.requires.part.2 c.args.gates c.args.roots out c.args.functions d0 d1 d2 c.requires.spans c.requires.apart live c.requires.small c.gate_handles-handles.result c.in-Ok.small c.gate_handles-handles.ensures.are c.in-Ok.ensures.adds c.in-Ok.ensures.stand c.write_gates.ensures.writes c.write_gates.ensures.rest c.write_gates.ensures.written d3 d4 c.solve_part-solved.ensures.writes c.write_gates-2.ensures.writes c.write_gates-2.ensures.rest c.write_gates-2.ensures.written (t c.requires.part.2)) c.solve_part-solved.ensures.reaches
 
 pub returns-in-Err-clause-few : goal.returns-in-Err-clause-few
 returns-in-Err-clause-few c one =
@@ -93,7 +93,7 @@ returns-clause-few c one =
     let r = c.solve_part-solved.result in
     let opened = (c.in-Ok.ensures.counts n (omega arith)).added in
     let written : IsCounted n 0 d1 d2 = counted_same n d1 d2 (ap (λ (d : Diagrams). d.budget) c.write_gates.ensures.rest) (ap (λ (d : Diagrams). d.nodes) c.write_gates.ensures.rest) in
-    let solved = c.solve_part-solved.ensures.few one n (gates_then c.args.circuit.now c.args.part.now c.requires.part c.requires.circuit c.requires.soft c.args.gates c.args.roots out c.args.functions d0 d1 d2 c.requires.spans c.requires.apart live c.requires.small c.gate_handles-handles.result c.in-Ok.small c.gate_handles-handles.ensures.are c.in-Ok.ensures.adds c.in-Ok.ensures.stand c.write_gates.ensures.writes c.write_gates.ensures.rest c.write_gates.ensures.written) (roots_then c.args.circuit.now c.args.part.now c.requires.part c.requires.circuit c.requires.soft c.args.gates c.args.roots out c.args.functions d0 d1 d2 c.requires.spans c.requires.apart live c.requires.small c.gate_handles-handles.result c.in-Ok.small c.gate_handles-handles.ensures.are c.in-Ok.ensures.adds c.in-Ok.ensures.stand c.write_gates.ensures.writes c.write_gates.ensures.rest c.write_gates.ensures.written) in
+    let solved = c.solve_part-solved.ensures.few one n (gates_then c.args.circuit.now c.args.part.now c.requires.part.1 c.requires.part.0 c.requires.part.2 c.args.gates c.args.roots out c.args.functions d0 d1 d2 c.requires.spans c.requires.apart live c.requires.small c.gate_handles-handles.result c.in-Ok.small c.gate_handles-handles.ensures.are c.in-Ok.ensures.adds c.in-Ok.ensures.stand c.write_gates.ensures.writes c.write_gates.ensures.rest c.write_gates.ensures.written) (roots_then c.args.circuit.now c.args.part.now c.requires.part.1 c.requires.part.0 c.requires.part.2 c.args.gates c.args.roots out c.args.functions d0 d1 d2 c.requires.spans c.requires.apart live c.requires.small c.gate_handles-handles.result c.in-Ok.small c.gate_handles-handles.ensures.are c.in-Ok.ensures.adds c.in-Ok.ensures.stand c.write_gates.ensures.writes c.write_gates.ensures.rest c.write_gates.ensures.written) in
     let back = spends_words n d2 d3 d4 (ap (λ (d : Diagrams). d.nodes) c.write_gates-2.ensures.rest) (ap (λ (d : Diagrams). d.budget) c.write_gates-2.ensures.rest) s c.args.out r
-    (λ k lt. word_beside c.args.gates c.args.out d3 d4 k c.write_gates-2.ensures.writes (out_apart c.args.circuit.now c.args.part.now c.requires.part c.requires.circuit c.requires.soft c.args.gates c.args.roots out c.args.functions d0 d1 d2 c.requires.spans c.requires.apart live c.requires.small c.gate_handles-handles.result c.in-Ok.small c.gate_handles-handles.ensures.are c.in-Ok.ensures.adds c.in-Ok.ensures.stand c.write_gates.ensures.writes c.write_gates.ensures.rest c.write_gates.ensures.written d3 d4 c.solve_part-solved.ensures.writes c.write_gates-2.ensures.writes c.write_gates-2.ensures.rest c.write_gates-2.ensures.written) lt) solved in
+    (λ k lt. word_beside c.args.gates c.args.out d3 d4 k c.write_gates-2.ensures.writes (out_apart c.args.circuit.now c.args.part.now c.requires.part.1 c.requires.part.0 c.requires.part.2 c.args.gates c.args.roots out c.args.functions d0 d1 d2 c.requires.spans c.requires.apart live c.requires.small c.gate_handles-handles.result c.in-Ok.small c.gate_handles-handles.ensures.are c.in-Ok.ensures.adds c.in-Ok.ensures.stand c.write_gates.ensures.writes c.write_gates.ensures.rest c.write_gates.ensures.written d3 d4 c.solve_part-solved.ensures.writes c.write_gates-2.ensures.writes c.write_gates-2.ensures.rest c.write_gates-2.ensures.written) lt) solved in
     spends_more n c.args.out ((q + 0) + s) (q + s) d0 d4 r (omega arith) (spends_behind n c.args.out (q + 0) s d0 d2 d4 r (counted_then n q 0 d0 d1 d2 opened written) back)
