@@ -4,7 +4,7 @@ ghost use Rattle.std.specs.Prelude.{ℕ, List, Some, None, ◌≡◌, ◌<◌, �
 ghost use Rattle.spice_reader.specs.Cards.{joined_at_equals, trimmed, card_words, card_from};
 
 use crate::card_words::CardWords;
-use crate::line::{add_lowered, without_end};
+use crate::line::without_end;
 use std::alloc::Global;
 use text_lines::{first_place, is_text_line, without_blanks};
 use vrt_model::{NoMemory, Text};
@@ -87,11 +87,11 @@ fn is_whole(text: &[u8]) -> bool
 
 /// The words of the bytes of a card.
 #[tactic(auto, unfolding(crate::specs::Cards::card_words))]
-fn words_of_card(alloc: Global, bytes: &[u8]) -> Result<CardWords, NoMemory>
-    ensures { IfOk result (λ words. words ≡ card_words bytes.now) }
+fn words_of_card(alloc: Global, bytes: Text) -> Result<CardWords, NoMemory>
+    ensures { IfOk result (λ words. words ≡ card_words bytes) }
 {
-    let mut lower = Text::new(alloc);
-    add_lowered(&mut lower, bytes)?;
+    let mut lower = bytes;
+    lower.make_ascii_lowercase();
     if is_whole(lower.as_bytes()) {
         return CardWords::of_line(alloc, lower);
     }
@@ -101,14 +101,15 @@ fn words_of_card(alloc: Global, bytes: &[u8]) -> Result<CardWords, NoMemory>
 }
 
 /// The card of a line, from the bytes of all its lines.
-pub fn card_of_bytes(alloc: Global, line: u32, bytes: &[u8]) -> Result<Card, NoMemory>
-    ensures { IfOk result (λ card. card ≡ card_from line bytes.now) }
+pub fn card_of_bytes(alloc: Global, line: u32, bytes: Text) -> Result<Card, NoMemory>
+    ensures { IfOk result (λ card. card ≡ card_from line bytes) }
 {
+    let is_all_text = is_text_line(bytes.as_bytes());
     let words = words_of_card(alloc, bytes)?;
     Ok(Card {
         line,
         is_orphan: false,
-        is_all_text: is_text_line(bytes),
+        is_all_text,
         words,
     })
 }

@@ -6,7 +6,7 @@ ghost use Rattle.text_lines.specs.Words.{but_last, last_word};
 ghost use Rattle.spice_reader.specs.Netlist.{is_device, is_instance, device_of, instance_of, without_slash, tied_words};
 
 use crate::card::Card;
-use crate::words::{first, has_letter, nth_word, plain, tail, word};
+use crate::words::{cut_word, first, has_letter, nth_word, plain, tail};
 use std::alloc::Global;
 use text_lines::{count_words, first_words, line_words};
 use vrt_model::{DeviceCard, InstanceCard, NoMemory, Seq, Text};
@@ -15,14 +15,19 @@ use vrt_model::{DeviceCard, InstanceCard, NoMemory, Seq, Text};
 fn device(alloc: Global, card: &Card) -> Result<DeviceCard, NoMemory>
     ensures { IfOk result (λ d. d ≡ device_of card.now) }
 {
+    let (drain, rest) = cut_word(tail(card.words.as_line()));
+    let (gate, rest) = cut_word(rest);
+    let (source, rest) = cut_word(rest);
+    let (bulk, rest) = cut_word(rest);
+    let (model, _) = cut_word(rest);
     Ok(DeviceCard {
         line: card.line,
         name: Text::from_bytes(alloc, first(card))?,
-        drain: Text::from_bytes(alloc, word(&card.words, 1))?,
-        gate: Text::from_bytes(alloc, word(&card.words, 2))?,
-        source: Text::from_bytes(alloc, word(&card.words, 3))?,
-        bulk: Text::from_bytes(alloc, word(&card.words, 4))?,
-        model: Text::from_bytes(alloc, word(&card.words, 5))?,
+        drain: Text::from_bytes(alloc, drain)?,
+        gate: Text::from_bytes(alloc, gate)?,
+        source: Text::from_bytes(alloc, source)?,
+        bulk: Text::from_bytes(alloc, bulk)?,
+        model: Text::from_bytes(alloc, model)?,
     })
 }
 

@@ -100,14 +100,23 @@ fn is_parameter_word(text: &[u8]) -> bool
     has_byte(b'=', text) || text == b"params:".as_slice()
 }
 
+/// The first word, empty where there is none, and the line behind it.
+pub fn cut_word(line: &[u8]) -> (&[u8], &[u8])
+    ensures word { result.0.now ≡ word_at (words_of line.now) 0 }
+    ensures rest { words_of result.1.now ≡ behind (words_of line.now) }
+{
+    match first_word(line) {
+        Some((word, rest)) => (word, rest),
+        None => (&[], line),
+    }
+}
+
 /// The words behind the first.
 pub fn tail(line: &[u8]) -> &[u8]
     ensures { words_of result.now ≡ behind (words_of line.now) }
 {
-    match first_word(line) {
-        Some((_, rest)) => rest,
-        None => line,
-    }
+    let (_, rest) = cut_word(line);
+    rest
 }
 
 /// How many words stand before the first that is a parameter.

@@ -1,6 +1,7 @@
 //! A list of bytes.
 
-ghost use Rattle.std.specs.Prelude.{◌≡◌, ◌==◌, List, ℕ, [], ◌∷◌, ◌++◌, ◌+◌, ◌≤◌, length, take, if◌then◌else◌, MatchResult, IfOk};
+ghost use Rattle.std.specs.Prelude.{◌≡◌, ◌==◌, List, ℕ, [], ◌∷◌, ◌++◌, ◌+◌, ◌≤◌, length, map, take, if◌then◌else◌, MatchResult, IfOk};
+ghost use Rattle.std.specs.Char.{to_ascii_lowercase};
 ghost use Rattle.vrt_model.specs.Texts.{bytes_of};
 
 use crate::NoMemory;
@@ -72,10 +73,10 @@ fn filled(first: &[u8], second: &[u8]) -> [u8; 14]
 fn long(alloc: Global, first: &[u8], second: &[u8]) -> Result<Bytes, NoMemory>
     ensures { IfOk result (λ made. bytes_of made ≡ first.now ++ second.now) }
 {
-    let Ok(mut bytes) = Vec::from_slice(alloc, first) else {
+    let Ok(mut bytes) = Vec::with_capacity(alloc, first.len() + second.len()) else {
         return Err(NoMemory);
     };
-    if bytes.extend_from_slice(second).is_err() {
+    if bytes.extend_from_slice(first).is_err() || bytes.extend_from_slice(second).is_err() {
         return Err(NoMemory);
     }
     match Box::new(alloc, bytes) {
@@ -124,6 +125,13 @@ impl Few {
         self.count += 1;
         true
     }
+
+    /// Puts each letter in lower case, those behind the bytes that count too.
+    fn make_ascii_lowercase(&mut self)
+        ensures { take self.new.count self.new.room ≡ map to_ascii_lowercase (take self.old.count self.old.room) }
+    {
+        self.room.as_mut_slice().make_ascii_lowercase();
+    }
 }
 
 impl Bytes {
@@ -161,6 +169,16 @@ impl Bytes {
                 Ok(()) => Ok(true),
                 Err(_) => Err(NoMemory),
             },
+        }
+    }
+
+    /// Puts each letter in lower case.
+    fn make_ascii_lowercase(&mut self)
+        ensures { bytes_of self.new ≡ map to_ascii_lowercase (bytes_of self.old) }
+    {
+        match self {
+            Bytes::Short(few) => few.make_ascii_lowercase(),
+            Bytes::Long(bytes) => bytes.as_mut_slice().make_ascii_lowercase(),
         }
     }
 }
@@ -236,6 +254,13 @@ impl Text {
             Ok(false) => self.grow(bytes),
             Err(_) => Err(NoMemory),
         }
+    }
+
+    /// Puts each letter from `A` to `Z` in lower case, where it stands.
+    pub fn make_ascii_lowercase(&mut self)
+        ensures { self.new ≡ map to_ascii_lowercase self.old }
+    {
+        self.bytes.make_ascii_lowercase();
     }
 
     /// The bytes, to go over.

@@ -1,4 +1,4 @@
-use Rattle.std.proofs.Common.{◌∙◌, length, sym}
+use Rattle.std.proofs.Common.{◌∙◌, length}
 use Rattle.std.proofs.lemmas.Bool.{eqb-true}
 use Rattle.spice_reader.proofs.SizeLaws.{trimmed_same}
 use Rattle.spice_reader.proofs.card.is_whole.Goals as goal
