@@ -3,7 +3,7 @@
 ghost use Rattle.std.specs.Prelude.{◌≡◌, ℕ, ◌<◌, ◌++◌, ◌∷◌, [], Ok, Err, List, false, true, filter, length, replicate, slice_index, IfOk, OnOk};
 ghost use Rattle.channel_parts.specs.Groups.{AreMade, IsMade, is_head};
 ghost use Rattle.channel_parts.specs.Labels.{IsLeastTogether};
-ghost use Rattle.channel_parts.specs.PartLists.{AreParts, PartsGive, device_numbers, net_numbers};
+ghost use Rattle.channel_parts.specs.PartLists.{AreParts, IsPartList, PartsGive, device_numbers, net_numbers};
 ghost use Rattle.known_nets.specs.KnownTables.{IsKnownTable, known_at};
 ghost use Rattle.known_nets.specs.Wired.{IsWired};
 ghost use Rattle.vrt_model.specs.Known.{IsPlain, IsTogether};
@@ -175,13 +175,12 @@ fn bare_parts(
     }
 }
 
-/// The parts of the kept circuit, all of rank 0.
-pub(crate) fn kept_parts(alloc: Global, circuit: &Circuit, phase: &Phase) -> Result<Parts, NoMemory>
-    requires { IsWired circuit.now }
-    ensures { IfOk result (λ parts. AreParts circuit.now phase.now false (λ n. 0) parts) }
+/// The parts of the kept circuit, all of rank 0, where these nets are known.
+fn kept_by(alloc: Global, circuit: &Circuit, known: &[Option<bool>]) -> Result<Parts, NoMemory>
+    requires wired { IsWired circuit.now }
+    requires known { length known.now ≡ length circuit.now.nets }
+    ensures { IfOk result (λ parts. (phase : PhaseValue) → IsKnownTable circuit.now phase (known_at known.now) → AreParts circuit.now phase false (λ n. 0) parts) }
 {
-    let table = known_nets(alloc, circuit, phase)?;
-    let known = table.as_slice();
     let labels = least_nets(alloc, circuit, known, false)?;
     let none = zeros(alloc, circuit.nets.len())?;
     let parts = listed(
@@ -193,6 +192,26 @@ pub(crate) fn kept_parts(alloc: Global, circuit: &Circuit, phase: &Phase) -> Res
         false,
     )?;
     Ok(parts)
+}
+
+/// The parts of the kept circuit, all of rank 0.
+pub(crate) fn kept_parts(alloc: Global, circuit: &Circuit, phase: &Phase) -> Result<Parts, NoMemory>
+    requires { IsWired circuit.now }
+    ensures { IfOk result (λ parts. AreParts circuit.now phase.now false (λ n. 0) parts) }
+{
+    let table = known_nets(alloc, circuit, phase)?;
+    let parts = kept_by(alloc, circuit, table.as_slice())?;
+    Ok(parts)
+}
+
+/// The parts of the circuit with its keepers, all of rank 0, from those without them: the same nets are known in both, so that this
+/// is not worked out again. Nothing but want of memory refuses.
+pub fn parts_with_keepers(alloc: Global, circuit: &Circuit, bare: &Parts) -> Result<Parts, NoMemory>
+    requires wired { IsWired circuit.now }
+    requires known { length bare.now.known ≡ length circuit.now.nets }
+    ensures { IfOk result (λ kept. (phase : PhaseValue) → IsKnownTable circuit.now phase (known_at bare.now.known) → IsPartList circuit.now phase false kept) }
+{
+    kept_by(alloc, circuit, bare.known.as_slice())
 }
 
 /// The parts of the bare or the kept circuit, or the first cycle of arcs.

@@ -21,7 +21,7 @@ mod sources;
 mod switching;
 mod unions;
 
-pub use assembly::parts;
+pub use assembly::{parts, parts_with_keepers};
 pub use class::{Class, ClassLine};
 pub use class_lines::classes;
 pub use known_nets::known_nets;

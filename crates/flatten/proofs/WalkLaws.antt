@@ -2,6 +2,7 @@
 use Rattle.std.proofs.Common.{◌≡◌, ◌<◌, ◌≤◌, ◌+◌, ◌∷◌, ◌&&◌, [], ℕ, zero, suc, List, Bool, true, false, not, cond, length, get_or, drop, map, Option, Some, None, option_map, refl, ap, ap₂, sym, subst, ◌∙◌, arith}
 use Rattle.std.specs.Prelude.{bytes_eq, find, flat_map, is_none, is_some, slice_get, unwrap_or, ◌==◌}
 use Rattle.std.specs.Option.{option_or}
+use Rattle.std.proofs.lemmas.Bool.{eqb-true}
 use Rattle.std.proofs.lemmas.Bool.Decides.{nat_tests}
 use Rattle.std.proofs.lemmas.Grind.{flat_map-append}
 use Rattle.std.proofs.lemmas.List.{append-nil, drop_all, drop_more}
@@ -57,6 +58,11 @@ module _ {Y : Type 0} (F : InstanceCard → Option Y) (cards : List InstanceCard
 
   pub none_left : (i : ℕ) → length cards ≤ i → Left i → None ≡ first_some F cards
   none_left i end left = sym (ap (first_some F) (drop_all i cards end)) ∙ left
+
+-- where no card is
+pub no_cards : {Y : Type 0} (F : InstanceCard → Option Y) (cards : List InstanceCard) → (length cards == 0) ≡ true → None ≡ first_some F cards
+no_cards F [] e = refl
+no_cards F (card ∷ cards) e = absurd (omega (arith, eqb-true (length (card ∷ cards)) 0 e))
 
 cell_found : (design : Design) (k : ℕ) (found : Cell) → Some found ≡ slice_get design.cells k → found ≡ cell_at design k
 cell_found design k found e =

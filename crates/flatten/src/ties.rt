@@ -195,6 +195,9 @@ fn first_from(
     if depth == 0 {
         return Ok(None);
     }
+    if cell.instances.is_empty() {
+        return Ok(None);
+    }
     let below = depth - 1;
     let ports = port_names(alloc, cell)?;
     for card in cell.instances.as_slice() {

@@ -1,7 +1,6 @@
-//! The circuit in a phase: its parts without keepers and with them.
+//! The circuit in a phase: its parts without keepers.
 
-ghost use Rattle.std.specs.Prelude.{◌≡◌, ◌<◌, IfOk, false, length};
-ghost use Rattle.channel_parts.specs.PartLists.{IsPartList};
+ghost use Rattle.std.specs.Prelude.{◌≡◌, ◌<◌, length};
 ghost use Rattle.known_nets.specs.Wired.{IsWired};
 ghost use Rattle.phase_plan.specs.Gives.{BareGives};
 ghost use Rattle.phase_terms.specs.Ready.{comparison_in};
@@ -11,7 +10,7 @@ use crate::fault::PlanFault;
 use channel_parts::{PartFault, Parts, parts};
 use phase_terms::Comparison;
 use std::alloc::Global;
-use vrt_model::{NoMemory, Phase, Rules};
+use vrt_model::{Phase, Rules};
 
 /// A phase by its number.
 pub(crate) fn phase_of(rules: &Rules, phase: u32) -> &Phase
@@ -36,22 +35,5 @@ pub(crate) fn bare_parts(
         Ok(bare) => Ok(bare),
         Err(PartFault::Cycle { nets }) => Err(PlanFault::Cycle { nets }),
         Err(PartFault::NoMemory) => Err(PlanFault::NoMemory),
-    }
-}
-
-/// The parts of the circuit with its keepers. There is no cycle then, so that want of memory alone refuses.
-pub(crate) fn kept_parts(
-    alloc: Global,
-    compared: Comparison<'_>,
-    phase: u32,
-) -> Result<Parts, NoMemory>
-    requires wired { IsWired compared.circuit.now }
-    requires phase { phase < length compared.rules.now.phases }
-    ensures { IfOk result (IsPartList compared.entry.circuit.now (phase_at compared.entry.rules.now phase) false) }
-{
-    let own = phase_of(compared.rules, phase);
-    match parts(alloc, compared.circuit, own, false) {
-        Ok(kept) => Ok(kept),
-        Err(_) => Err(NoMemory),
     }
 }

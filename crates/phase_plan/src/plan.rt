@@ -9,12 +9,12 @@ ghost use Rattle.rule_index.specs.Tables.{AreRuleTables};
 ghost use Rattle.vrt_model.specs.Comparison.{phase_at};
 ghost use Rattle.vrt_model.specs.Unsupported.{CircuitArc, IsAcyclic, ModelArc};
 
-use crate::circuits::{bare_parts, kept_parts};
+use crate::circuits::bare_parts;
 use crate::fault::PlanFault;
 use crate::model_order::model_order;
 use crate::wishes::wishes_of;
 use blif_eval::ModelPlan;
-use channel_parts::Parts;
+use channel_parts::{Parts, parts_with_keepers};
 use circuit_faults::circuit_steps;
 use phase_ports::observed_nets;
 use phase_terms::{Comparison, PhasePlan};
@@ -46,7 +46,7 @@ fn plan_with(
         phase,
         &parts,
     )?;
-    let kept = kept_parts(alloc, compared, phase)?;
+    let kept = parts_with_keepers(alloc, compared.circuit, &parts)?;
     let observed = observed_nets(
         alloc,
         index,

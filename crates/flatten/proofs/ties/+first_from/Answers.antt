@@ -1,5 +1,5 @@
-use Rattle.std.proofs.Common.{◌-◌, cond, Bool, None, Some, ap, ◌∙◌, arith}
-use Rattle.flatten.proofs.WalkLaws.{inner_ties, none_left, not_here, some_here, spot_is, tied_here}
+use Rattle.std.proofs.Common.{◌-◌, cond, Bool, None, Some, ap, refl, sym, ◌∙◌, arith}
+use Rattle.flatten.proofs.WalkLaws.{inner_ties, no_cards, none_left, not_here, some_here, spot_is, tied_here}
 use Rattle.rule_index.specs.Tables.{supply_in}
 use Rattle.flatten.specs.Walks.{first_tie, spot_in}
 use Rattle.vrt_model.specs.declared.design.InstanceCard.{InstanceCard}
@@ -39,3 +39,13 @@ returns t c =
     (tied_here c.args.design.now supply 0 c.args.at.now c.in-Some.cell.now c.as_slice.result.now c.as_slice-2.result.now c.ties_apart.result c.in-Some.ensures c.as_slice.ensures c.as_slice-2.ensures c.ties_apart.ensures
     ∙ ap (λ (b : Bool). cond b (Some c.args.at.now.path) None) c.if-ties_apart.false)
     c.as_slice-card-items.ensures (omega (arith, c.if-depth-eq0.false))
+
+pub returns-then-is_empty : goal.returns-then-is_empty
+returns-then-is_empty t c =
+    let supply = supply_in c.args.supplies.now in
+    let below = c.args.depth - 1 in
+    no_cards (λ (i : InstanceCard). first_tie c.args.design.now supply below (spot_in c.args.design.now supply c.args.at.now i)) c.in-Some.cell.now.instances (sym c.is_empty.ensures ∙ c.if-is_empty.true)
+    ∙ inner_ties c.args.design.now supply c.args.depth below c.args.at.now c.in-Some.cell.now c.in-Some.cell.now.instances c.in-Some.ensures
+    (tied_here c.args.design.now supply 0 c.args.at.now c.in-Some.cell.now c.as_slice.result.now c.as_slice-2.result.now c.ties_apart.result c.in-Some.ensures c.as_slice.ensures c.as_slice-2.ensures c.ties_apart.ensures
+    ∙ ap (λ (b : Bool). cond b (Some c.args.at.now.path) None) c.if-ties_apart.false)
+    refl (omega (arith, c.if-depth-eq0.false))
