@@ -1,5 +1,5 @@
 -- How many operations rows, covers and models take, and that they read no more variables than the handles given.
-use Rattle.std.proofs.Common.{◌≡◌, ℕ, zero, suc, ◌+◌, ◌<◌, ◌≤◌, ◌||◌, Bool, true, false, List, [], ◌∷◌, Result, drop, take, get_or, length, arith, ap, ◌∙◌}
+use Rattle.std.proofs.Common.{◌≡◌, ℕ, zero, suc, ◌+◌, ◌<◌, ◌≤◌, ◌||◌, Bool, true, false, not, List, [], ◌∷◌, Result, drop, take, get_or, length, slice_index, arith, ap, ◌∙◌}
 use Rattle.std.specs.Prelude.{sum_by, ◌==◌}
 use Rattle.std.proofs.lemmas.Bool.{true≢false}
 use Rattle.std.proofs.lemmas.List.{length-take-le}
@@ -37,6 +37,9 @@ module _ (u : ℕ) (a : Diagrams) (span : Span) (reads : IsSpanWithin u a span) 
   part_within row at v w same =
       row_same (bits_in a span v) (bits_in a span w) (drop at inputs) (drop at row) (λ s m. reads s (low s (among_drop at inputs s m)) v w same)
 
+  pub misses_within : (row : List ℕ) (at : ℕ) → IsWithin u (λ v. not (row_fits (bits_in a span v) (drop at inputs) (drop at row)))
+  misses_within row at v w same = ap not (part_within row at v w same)
+
   pub rows_within : (rows : List (List ℕ)) → IsWithin u (λ v. some_row_fits (bits_in a span v) inputs rows)
   rows_within rows v w same = rows_same (bits_in a span v) (bits_in a span w) inputs rows (λ s m. reads s (low s m) v w same)
 
@@ -66,6 +69,13 @@ literals_last row i j e = ap (λ (k : ℕ). literals_in (drop k row)) e
 
 pub literals_are : (row : List ℕ) → literals_in row ≡ sum_by literal_count row
 literals_are row = length-filter (λ (byte : ℕ). (byte == 48) || (byte == 49)) row
+
+-- two bytes, exchanged
+pub literals_turned : (row : List ℕ) → length row ≡ 2 → literals_in (slice_index row 1 ∷ slice_index row 0 ∷ []) ≤ literals_in row
+literals_turned [] e = absurd (omega (arith, e))
+literals_turned (a ∷ []) e = absurd (omega (arith, e))
+literals_turned (a ∷ b ∷ []) e = omega (arith, literals_are (b ∷ a ∷ []), literals_are (a ∷ b ∷ []))
+literals_turned (a ∷ b ∷ c ∷ row) e = absurd (omega (arith, e))
 
 -- one literal more, from the last to the first
 pub literals_next : (row : List ℕ) (at : ℕ) → at < length row → literals_in (drop at row) ≡ literal_count (get_or row at 0) + literals_in (drop (at + 1) row)

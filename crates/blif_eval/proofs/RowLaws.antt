@@ -29,6 +29,15 @@ pub one_literal : (a b : Bool) → cond a b false ≡ (byte_fits 49 a && b)
 one_literal true b = refl
 one_literal false b = refl
 
+-- where it does not fit
+pub zero_misfit : (a b : Bool) → cond a true b ≡ (not (byte_fits 48 a) || b)
+zero_misfit true b = refl
+zero_misfit false b = refl
+
+pub one_misfit : (a b : Bool) → cond a b true ≡ (not (byte_fits 49 a) || b)
+one_misfit true b = refl
+one_misfit false b = refl
+
 -- ---- bits are kept
 
 pub bits_kept : (a b : Diagrams) (f : Function) (r : Result H Spent) (span : Span) (s : ℕ) (v : Valuation) → Gives a b f r → IsFilled a span → s < span.len
@@ -66,6 +75,39 @@ row_next a b c span inputs row before at value p r next live lt within low is fi
         let whole : row_from a span inputs row at v ≡ (byte_fits (get_or row at 0) (bits_in a span v (get_or inputs at 0)) && row_fits (bits_in a span v) (drop (suc at) inputs) (drop (suc at) row)) =
         ap₂ (λ (xs ys : List ℕ). row_fits (bits_in a span v) xs ys) (drop-cons inputs at 0 lt) (drop-cons row at 0 within) in
         ap₂ (λ (x y : Bool). byte_fits (get_or row at 0) x && y) bit rest ∙ sym whole
+
+-- ---- where a row does not fit, likewise
+
+abbrev pub row_misses : Diagrams → Span → List ℕ → List ℕ → ℕ → Function
+row_misses d span inputs row at = λ v. not (row_from d span inputs row at v)
+
+pub misses_last : (d : Diagrams) (span : Span) (inputs row : List ℕ) (at : ℕ) → at ≡ length inputs → IsReduced d.vars d.nodes
+    → length d.nodes ≤ d.budget → Gives d d (row_misses d span inputs row at) (Ok (record { 0 = 0 }))
+misses_last d span inputs row at is sound within =
+    gives_none d (row_misses d span inputs row at) (record { 0 = 0 }) sound within (let ends = sound.ends in omega (arith, ends))
+    (λ v. meaning_zero d.nodes v ∙ sym (ap (λ (xs : List ℕ). not (row_fits (bits_in d span v) xs (drop at row))) (ap (λ (k : ℕ). drop k inputs) is ∙ drop_all inputs)))
+
+not_both : (x y : Bool) → not (x && y) ≡ (not x || not y)
+not_both true y = refl
+not_both false y = refl
+
+pub misses_next : (a b c : Diagrams) (span : Span) (inputs row : List ℕ) (before at : ℕ) (value p : H) (r : Result H Spent) → before ≡ suc at → IsFilled a span
+    → at < length inputs → at < length row → get_or inputs at 0 < span.len → value.0 ≡ word_at b span (get_or inputs at 0)
+    → Gives a b (row_misses a span inputs row before) (Ok p) → Gives b c (λ v. not (byte_fits (get_or row at 0) (function_of b value v)) || function_of b p v) r
+    → Gives a c (row_misses a span inputs row at) r
+misses_next a b c span inputs row before at value p r next live lt within low is first second =
+    gives_next a b c (row_misses a span inputs row before) (λ v. not (byte_fits (get_or row at 0) (function_of b value v)) || function_of b p v) (row_misses a span inputs row at) p r first second same
+  where
+    same : (v : Valuation) → (not (byte_fits (get_or row at 0) (function_of b value v)) || function_of b p v) ≡ row_misses a span inputs row at v
+    same v =
+        let bit : function_of b value v ≡ bits_in a span v (get_or inputs at 0) =
+        ap (λ (k : ℕ). meaning b.nodes k v) is ∙ bits_kept a b (row_misses a span inputs row before) (Ok p) span (get_or inputs at 0) v first live low in
+        let rest : function_of b p v ≡ not (row_fits (bits_in a span v) (drop (suc at) inputs) (drop (suc at) row)) =
+        first.ok.same v ∙ ap (λ (k : ℕ). not (row_fits (bits_in a span v) (drop k inputs) (drop k row))) next in
+        let fits : Bool = byte_fits (get_or row at 0) (bits_in a span v (get_or inputs at 0)) in
+        let behind : Bool = row_fits (bits_in a span v) (drop (suc at) inputs) (drop (suc at) row) in
+        let whole : row_from a span inputs row at v ≡ (fits && behind) = ap₂ (λ (xs ys : List ℕ). row_fits (bits_in a span v) xs ys) (drop-cons inputs at 0 lt) (drop-cons row at 0 within) in
+        ap₂ (λ (x y : Bool). not (byte_fits (get_or row at 0) x) || y) bit rest ∙ sym (not_both fits behind) ∙ ap not (sym whole)
 
 -- ---- rows, one after the other
 

@@ -15,6 +15,7 @@ ghost use Rattle.vrt_model.specs.Lists.{is_empty};
 
 use crate::choice::choose;
 use crate::full_rows::{is_tree, tree_diagram};
+use crate::off_row::{is_off_row, off_row};
 use bdd_core::{H, ONE, Spent, Store, ZERO};
 use bdd_ops::{not, or};
 use node_pool::Span;
@@ -305,10 +306,11 @@ pub(crate) fn is_of_rows(cover: &Cover) -> bool
 
 /// The function of a cover, from the functions of its inputs: with rows of the on-set, or with no rows, 1 where some row
 /// fits, and with rows of the off-set 1 where none fits. `values` holds a handle for each signal. Rows are built from
-/// their last input to their first. Where a cover has two rows and these ask opposite bits of an input, as those of an
-/// exclusive or, of its complement and of a selection do, this input selects between them by one `ite`. Of three to
-/// sixteen rows that ask a bit of every input, as those of the sum of three bits do, each input selects, from the first
-/// to the last, which of the rows are left.
+/// their last input to their first. Of one row of the off-set, as a NAND gate has, the valuations at which it does not
+/// fit are built, and of two inputs that with the older handle is complemented. Where a cover has two rows and these ask
+/// opposite bits of an input, as those of an exclusive or, of its complement and of a selection do, this input selects
+/// between them by one `ite`. Of three to sixteen rows that ask a bit of every input, as those of the sum of three bits
+/// do, each input selects, from the first to the last, which of the rows are left.
 ///
 /// It takes at most one operation for each literal, which is a `0` or a `1` of a row, and two for each row. Where the
 /// handles read only the first `u` variables, each operation adds fewer than `2 ^ u` nodes, and `Spent` comes only where
@@ -321,6 +323,9 @@ pub fn cover_diagram(store: &mut Store, cover: &Cover, values: Span) -> Result<H
     ensures counts { (u : ℕ) → IsSpanWithin u store.old values → Counts u (operations_of cover.now) store.old store.new result }
 {
     store.sound();
+    if is_off_row(cover) {
+        return off_row(store, cover, values);
+    }
     let sum = match rows_diagram(store, cover, values) {
         Ok(sum) => sum,
         Err(spent) => return Err(spent),

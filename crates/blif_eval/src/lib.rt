@@ -10,6 +10,7 @@ mod full_rows;
 mod graph;
 mod known;
 mod learning;
+mod off_row;
 mod plan;
 
 pub use cover::cover_diagram;

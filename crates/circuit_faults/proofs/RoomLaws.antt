@@ -2,6 +2,7 @@
 use Rattle.std.proofs.Common.{ℕ, zero, suc, ◌+◌, ◌-◌, ◌*◌, ◌^◌, ◌≤◌, Bool, true, false, Option, Some, None, length, arith}
 use Rattle.std.specs.Prelude.{◌==◌}
 use Rattle.std.proofs.Math.Nat.{mul-le-mul_left, mul-le-mul_right}
+use Rattle.std.proofs.lemmas.Nat.{pow_pos}
 use Rattle.node_pool.specs.declared.region.Span.{Span}
 use Rattle.bdd_core.specs.Store.{Diagrams}
 use Rattle.channel_parts.specs.declared.part.Part.{Part}
@@ -32,10 +33,10 @@ solving_most : (l p q r : ℕ) → usual_source ≤ l → 108 * (p * q) + 12 * p
 solving_most l p q r high = omega (arith, mul-le-mul_right {m = 108} {n = 12 * l + 12} (p * q) (omega (arith, high)))
 
 -- by plain numbers: s operations solve p nets and q devices, k is the number of functions, and x operations are those of a net
-module _ (s p q k x : ℕ) (some : 1 ≤ p) (six : k ≤ 6) (all : k ≤ q) (most : 108 * (p * q) + 12 * p ≤ s) (each : x ≤ 3 * 2 ^ k + 4) where
-  scanned : p * x ≤ 32 * (p * q) + 7 * p
+module _ (s p q k x : ℕ) (some : 1 ≤ p) (six : k ≤ 6) (all : k ≤ q) (most : 108 * (p * q) + 12 * p ≤ s) (each : x ≤ 3 * 2 ^ k + 2) where
+  scanned : p * x ≤ 32 * (p * q) + 5 * p
   scanned =
-      let each_net : p * x ≤ p * (32 * q + 7) = mul-le-mul_left {m = x} {n = 32 * q + 7} p (omega (arith, each, powers k q six all)) in
+      let each_net : p * x ≤ p * (32 * q + 5) = mul-le-mul_left {m = x} {n = 32 * q + 5} p (omega (arith, each, powers k q six all)) in
       omega (arith, each_net)
 
   nets_devices : q ≤ p * q
@@ -57,5 +58,5 @@ way_room (Some f) c part gates roots d small =
     let q = length part.devices in
     let x = scan_operations (Some f) in
     let most : 108 * (p * q) + 12 * p ≤ s = solving_most (source_level c) p q (pins_at part (pins_of c)) (source_high (c.source == most_source)) in
-    let each : x ≤ 3 * 2 ^ f.count + 4 = omega arith in
+    let each : x ≤ 3 * 2 ^ f.count + 2 = omega (arith, pow_pos f.count) in
     (s + 4 * p - p * x, room_half s p q f.count x small.some small.reads.list.few small.reads.no_more most each, room_all s p q f.count x small.some small.reads.list.few small.reads.no_more most each)

@@ -1,5 +1,5 @@
 -- Where the values reach the nets of a part, and handles of functions over the variables that stand for what it reads.
-use Rattle.std.specs.Prelude.{ℕ, ◌+◌, ◌*◌, ◌^◌, ◌≤◌, ◌||◌, Bool, not, Option, Some, None, length}
+use Rattle.std.specs.Prelude.{ℕ, ◌+◌, ◌-◌, ◌*◌, ◌^◌, ◌≤◌, ◌||◌, Bool, not, Option, Some, None, length}
 use Rattle.bdd_core.specs.Diagram.{Function, IsWithin}
 use Rattle.bdd_core.specs.Store.{Diagrams, IsLive, function_of}
 use Rattle.bdd_core.specs.declared.handle.H.{H}
@@ -58,7 +58,7 @@ fault_operations (Some functions) = 2 * 2 ^ functions.count + 3
 -- to find its bit
 abbrev pub bit_operations : Option PartFunctions → ℕ
 bit_operations None = 0
-bit_operations (Some functions) = 2 ^ functions.count + 1
+bit_operations (Some functions) = 2 ^ functions.count - 1
 
 abbrev pub scan_operations : Option PartFunctions → ℕ
 scan_operations way = fault_operations way + bit_operations way

@@ -17,7 +17,7 @@ use crate::small::small_fault;
 use bdd_core::{H, Spent, Store};
 use channel_parts::Part;
 use node_pool::Span;
-use part_functions::{PartFunctions, composed_bit};
+use part_functions::{PartFunctions, composed};
 use path_fixpoint::{NetWords, reached};
 use vrt_model::Net;
 
@@ -72,10 +72,7 @@ fn bit_at(
     store.sound();
     let one = reached(store, out, place, true);
     match way {
-        Some(functions) => {
-            let zero = reached(store, out, place, false);
-            composed_bit(store, functions, zero, one)
-        }
+        Some(functions) => composed(store, functions, one),
         None => Ok(one),
     }
 }

@@ -19,9 +19,9 @@ pub struct Linked {
 /// How many heads a pool begins with. Their number is this times a power of 4.
 pub const FEWEST: u32 = 1024;
 
-/// The chain that a node is on, of `mask` and one more. A function with a row of variables is made from its last variable on:
+/// The chain that a node is on, of `mask` and one more. A product or a sum of many variables is made from its last variable on:
 /// one branch of each node is the node made just before, and its variable the one before, while the other branch is the same for
-/// all. The sum of the three stays the same then, so the nodes of a row have heads near each other, which caches serve well.
+/// all. The sum of the three stays the same then, so the nodes of one have heads near each other, which caches serve well.
 /// Nodes with the same sum still differ in what is added to it. The multiplier is a prime of the package CUDD.
 pub fn chain_at(mask: u32, node: Node) -> u32
     ensures place { result ≡ chain_of mask node }

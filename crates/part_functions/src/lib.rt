@@ -2,7 +2,6 @@
 //! wanted.
 #![tactic(auto)]
 
-mod bit;
 mod compose;
 mod few;
 mod order;
@@ -10,7 +9,6 @@ mod replaced;
 mod solve;
 mod suits;
 
-pub use bit::composed_bit;
 pub use compose::composed;
 pub use few::PartFunctions;
 pub use solve::solve_small;

@@ -107,7 +107,7 @@ fn read_functions(
     let Some(functions) = gathered(store, circuit, part, gates, roots) else {
         return None;
     };
-    Some(ordered(store, functions))
+    Some(ordered(functions))
 }
 
 /// Whether a function is seen at once to read a variable of a number or behind it.

@@ -1,4 +1,4 @@
-use Rattle.std.proofs.Common.{ℕ, Ok, Option, arith, false, refl, subst, sym, true}
+use Rattle.std.proofs.Common.{ℕ, Ok, Option, arith, refl, subst, sym, true}
 use Rattle.bdd_core.proofs.Frames.{gives_none}
 use Rattle.bdd_core.proofs.Results.{if_ok_more}
 use Rattle.bdd_core.specs.Diagram.{meaning}
@@ -14,27 +14,26 @@ use Rattle.part_functions.specs.Inner.{composed_of}
 use Rattle.part_functions.specs.declared.few.PartFunctions.{PartFunctions}
 use Rattle.circuit_faults.proofs.scan.bit_at.Goals as goal
 
-pub composed_bit-requires-clause-functions : goal.composed_bit-requires-clause-functions
-composed_bit-requires-clause-functions c =
+pub composed-requires-clause-functions : goal.composed-requires-clause-functions
+composed-requires-clause-functions c =
     let ready = subst (λ (o : Option PartFunctions). AreReady o c.args.store.now c.args.out c.args.place) c.in-Some.is c.requires.ready in
     (ready.1, ready.0)
 
-pub composed_bit-requires-clause-within : goal.composed_bit-requires-clause-within
-composed_bit-requires-clause-within c =
+pub composed-requires-clause-within : goal.composed-requires-clause-within
+composed-requires-clause-within c =
     let d = c.args.store.now in
     let f : PartFunctions = c.in-Some.functions in
-    let ready = subst (λ (o : Option PartFunctions). AreReady o d c.args.out c.args.place) c.in-Some.is c.requires.ready in (
-      (inner_of f d c.args.out c.args.place false c.reached-zero.result c.reached-zero.ensures.is c.reached-zero.ensures.live ready).within,
-      (inner_of f d c.args.out c.args.place true c.reached-one.result c.reached-one.ensures.is c.reached-one.ensures.live ready).within,
-    )
+    let ready = subst (λ (o : Option PartFunctions). AreReady o d c.args.out c.args.place) c.in-Some.is c.requires.ready in
+    let inner = inner_of f d c.args.out c.args.place true c.reached-one.result c.reached-one.ensures.is c.reached-one.ensures.live ready in
+    inner.within
 
 pub returns-in-Some-clause-gives : goal.returns-in-Some-clause-gives
 returns-in-Some-clause-gives c =
     let old = c.args.store.now in
-    let new = c.composed_bit.new.store in
+    let new = c.composed.new.store in
     let f : PartFunctions = c.in-Some.functions in
-    subst (λ (o : Option PartFunctions). Gives old new (reach_of o old c.args.out true c.args.place) c.composed_bit.result) (sym c.in-Some.is)
-    (subst (λ (k : ℕ). Gives old new (composed_of f old (λ v. meaning old.nodes k v)) c.composed_bit.result) c.reached-one.ensures.is c.composed_bit.ensures.gives)
+    subst (λ (o : Option PartFunctions). Gives old new (reach_of o old c.args.out true c.args.place) c.composed.result) (sym c.in-Some.is)
+    (subst (λ (k : ℕ). Gives old new (composed_of f old (λ v. meaning old.nodes k v)) c.composed.result) c.reached-one.ensures.is c.composed.ensures.gives)
 
 pub returns-in-Some-clause-finds : goal.returns-in-Some-clause-finds
 returns-in-Some-clause-finds c u out few =
@@ -42,9 +41,9 @@ returns-in-Some-clause-finds c u out few =
     let f : PartFunctions = c.in-Some.functions in
     let way = subst (λ (o : Option PartFunctions). AreFewAt u o old) c.in-Some.is few in
     record {
-      counts = subst (λ (o : Option PartFunctions). Counts u (bit_operations o) old c.composed_bit.new.store c.composed_bit.result) (sym c.in-Some.is) (c.composed_bit.ensures.counts u way.0 way.1);
-      within = if_ok_more _ _ c.composed_bit.result
-          (λ h m. within_same u (composed_of f old (function_of old c.reached-one.result)) (function_of c.composed_bit.new.store h) m.same (within_composed u f old (function_of old c.reached-one.result) way.1)) c.composed_bit.ensures.gives.ok;
+      counts = subst (λ (o : Option PartFunctions). Counts u (bit_operations o) old c.composed.new.store c.composed.result) (sym c.in-Some.is) (c.composed.ensures.counts u f.count way.1 (omega arith));
+      within = if_ok_more _ _ c.composed.result
+          (λ h m. within_same u (composed_of f old (function_of old c.reached-one.result)) (function_of c.composed.new.store h) m.same (within_composed u f old (function_of old c.reached-one.result) way.1)) c.composed.ensures.gives.ok;
     }
 
 pub returns-in-None-clause-gives : goal.returns-in-None-clause-gives
